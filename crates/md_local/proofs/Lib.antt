@@ -15,3 +15,4 @@ pub mod Substituted
 pub mod EndsAndHeads
 pub mod PutTrees
 pub mod QuotientNames
+pub mod Ways

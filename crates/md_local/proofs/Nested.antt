@@ -1,10 +1,8 @@
 -- The nodes of a tree, read from the last to the first: behind each come those below it.
-use Rattle.std.proofs.Common.{◌≡◌, ◌⊎◌, List, [], ◌∷◌, ◌++◌, map, refl, sym, ◌∙◌, ap, append_assoc, append-nil, inl, inr}
-use Rattle.std.proofs.lemmas.List.{append_cancel_left, map-append}
-use Rattle.std.specs.Borrow.{Bor}
-use Rattle.md_tree.specs.declared.TreeOf.{TreeOf}
+use Rattle.std.proofs.Common.{◌≡◌, ◌⊎◌, List, [], ◌∷◌, ◌++◌, refl, sym, ◌∙◌, ap, append_assoc, append-nil, inl, inr}
+use Rattle.std.proofs.lemmas.List.{append_cancel_left}
 use Rattle.md_tree.specs.Trees.{PlainTreeOf, leaf, node, PlainTreesOf, no_tree, one_more, row}
-use Rattle.md_tree.specs.Parts.{below_node, plain_at}
+use Rattle.md_tree.specs.Parts.{below_node}
 use Rattle.md_tree.specs.NodeLists.{nodes_backward, row_nodes_backward}
 use Rattle.md_tree.proofs.Folding.{row_listed}
 
@@ -23,12 +21,12 @@ split_at (q ∷ ps) p xs (a ∷ ls) bs e =
     ]
 
 -- there is no element in no list
-none_there : {X : Type 0} {A : Type 0} (ps : List X) (p : X) (xs : List X) → ps ++ p ∷ xs ≡ [] → A
+pub none_there : {X : Type 0} {A : Type 0} (ps : List X) (p : X) (xs : List X) → ps ++ p ∷ xs ≡ [] → A
 none_there [] p xs e = let h : p ∷ xs ≡ [] = e in absurd (cc)
 none_there (q ∷ ps) p xs e = let h : q ∷ (ps ++ p ∷ xs) ≡ [] = e in absurd (cc)
 
 -- a list is empty or has a last element
-last_of : {X : Type 0} (xs : List X) → (xs ≡ []) ⊎ ((ys : List X) × (y : X) × (xs ≡ ys ++ y ∷ []))
+pub last_of : {X : Type 0} (xs : List X) → (xs ≡ []) ⊎ ((ys : List X) × (y : X) × (xs ≡ ys ++ y ∷ []))
 last_of [] = inl refl
 last_of (x ∷ xs) = elim (last_of xs) [
   | inl none ↦ inr ([], x, ap (λ l. x ∷ l) none)
@@ -67,7 +65,7 @@ module _ {K P : Type 0} where
       | inr found ↦ behind t found.0 p xs found.1
     ]
 
-  rows-append : (xs ys : List (PlainTreeOf K P)) → row_nodes_backward (row (xs ++ ys)) ≡ row_nodes_backward (row ys) ++ row_nodes_backward (row xs)
+  pub rows-append : (xs ys : List (PlainTreeOf K P)) → row_nodes_backward (row (xs ++ ys)) ≡ row_nodes_backward (row ys) ++ row_nodes_backward (row xs)
   rows-append [] ys = sym (append-nil (row_nodes_backward (row ys)))
   rows-append (x ∷ xs) ys = ap (λ l. l ++ nodes_backward x) (rows-append xs ys) ∙ append_assoc (row_nodes_backward (row ys)) (row_nodes_backward (row xs)) (nodes_backward x)
 
@@ -111,7 +109,7 @@ module _ {K P : Type 0} where
       behind t ps p (row_nodes_backward (row ts)) (sym (append_assoc ps (p ∷ []) (row_nodes_backward (row ts))) ∙ ap (λ l. l ++ row_nodes_backward (row ts)) (sym pop) ∙ so) in
       ends_with (below_node p) ts more.0 more.1
 
-  own_nodes : (p : PlainTreeOf K P) → nodes_backward p ≡ p ∷ row_nodes_backward (row (below_node p))
+  pub own_nodes : (p : PlainTreeOf K P) → nodes_backward p ≡ p ∷ row_nodes_backward (row (below_node p))
   own_nodes (leaf v) = refl
   own_nodes (node k cs es) = ap (λ ts. node k cs es ∷ row_nodes_backward ts) (sym (row_listed cs))
 
@@ -135,6 +133,3 @@ module _ {K P : Type 0} where
         | inl empty ↦ us.1 ∙ ap (λ l. l ++ t ∷ []) empty
         | inr last ↦ no_nodes last.1 (row_nodes_backward (row last.0)) (sym (rows-append last.0 (last.1 ∷ [])) ∙ ap (λ l. row_nodes_backward (row l)) (sym last.2) ∙ rest)
       ]
-
-pub plain_last : {K P : Type 0} (nodes left : List (Bor (TreeOf K P))) (r : Bor (TreeOf K P)) → nodes ≡ left ++ r ∷ [] → map plain_at nodes ≡ map plain_at left ++ plain_at r ∷ []
-plain_last nodes left r pop = ap (map plain_at) pop ∙ map-append plain_at left (r ∷ [])

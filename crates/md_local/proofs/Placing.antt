@@ -30,12 +30,6 @@ leaf_below t v is = ap below_node (plain_is_leaf t v is)
 pub node_below : (t : TreeOf Kind Pair) (k : Kind) (cs : ChildrenOf Kind Pair) (ps : PairsOf Pair) → t ≡ Node k cs ps → below_node (plain t) ≡ map plain (trees_of cs)
 node_below t k cs ps is = ap below_node (plain_is_node t k cs ps is) ∙ listed_row (map plain (trees_of cs))
 
-pub leaf_number : (t : TreeOf Kind Pair) (v : ℕ) → t ≡ Leaf v → 0 ≡ length (below_node (plain t))
-leaf_number t v is = sym (ap length (leaf_below t v is))
-
-pub node_number : (t : TreeOf Kind Pair) (k : Kind) (cs : ChildrenOf Kind Pair) (ps : PairsOf Pair) (n : ℕ) → t ≡ Node k cs ps → n ≡ length (trees_of cs) → n ≡ length (below_node (plain t))
-node_number t k cs ps n is number = number ∙ sym (ap length (node_below t k cs ps is) ∙ length-map (trees_of cs) plain)
-
 pub leaf_unmerged : (kind : Kind) (t : TreeOf Kind Pair) (v : ℕ) → t ≡ Leaf v → false ≡ is_merged kind (plain t)
 leaf_unmerged kind t v is = sym (ap (is_merged kind) (plain_is_leaf t v is))
 

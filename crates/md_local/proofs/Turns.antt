@@ -1,7 +1,8 @@
--- What grows of a node, and the stack of what has grown.
-use Rattle.std.proofs.Common.{◌≡◌, ◌≢◌, ◌⊎◌, ℕ, suc, ◌+◌, ◌-◌, ◌≤◌, Bool, true, false, not, ◌&&◌, ◌||◌, ◌==◌, eqb, eqb-true, cond, List, [], ◌∷◌, ◌++◌, length, map, take, drop, length-append, append_assoc, append-nil, refl, sym, ◌∙◌, ap, subst, inl, inr, arith}
+-- What grows of a node, and of trees in a row.
+use Rattle.std.proofs.Common.{◌≡◌, ◌≢◌, ◌⊎◌, ℕ, suc, ◌+◌, ◌≤◌, Bool, true, false, not, ◌&&◌, ◌||◌, ◌==◌, eqb, eqb-true, cond, List, [], ◌∷◌, ◌++◌, length, map, append_assoc, append-nil, refl, sym, ◌∙◌, ap, subst, inl, inr, arith}
 use Rattle.std.specs.Prelude.{⊤}
 use Rattle.std.proofs.lemmas.Bool.{cases_Bool, false_from_ne_true, and_parts, and_from, false≢true}
+use Rattle.std.proofs.lemmas.List.Folds.{list_any-append}
 use Rattle.std.proofs.lemmas.List.Sums.{sum_by-cons, sum_by-append}
 use Rattle.std.specs.FinSet.{contains, empty, intersection, len}
 use Rattle.std.specs.List.{list_any, sum_by}
@@ -29,11 +30,13 @@ use Rattle.md_tree.proofs.Kinded.{apart_of, built_tree}
 use Rattle.md_tree.proofs.GraphKinds.{two_of_kind, kinds_of_graphs}
 use Rattle.md_tree.proofs.Apart.{one_if, one_has, row_lacks, apart_once, once_apart}
 use Rattle.md_tree.proofs.Folding.{row_listed}
+use Rattle.md_tree.proofs.Stacking.{map_one_more}
+use Rattle.md_local.specs.declared.growing.Below.{Below}
 use Rattle.md_local.specs.declared.growing.Grown.{Grown}
 use Rattle.md_local.specs.declared.growing.Growth.{Growth}
 use Rattle.md_local.specs.declared.growing.Growth.TheVariants.{Whole, Hanging}
 use Rattle.md_local.specs.Changes.{AgreeOff}
-use Rattle.md_local.specs.Growing.{holds_both, some_holds_both, have_apart, own_steps, IsOld, AreHanging, HasGrown, is_hanging, one_alone, IsGrownFrom, AreGrownFrom, are_apart, IsJoined, added_to, gathered, quotient_names}
+use Rattle.md_local.specs.Growing.{holds_both, some_holds_both, have_apart, own_steps, IsOld, AreHanging, HasGrown, is_hanging, one_alone, IsGrownFrom, AreGrownFrom, IsBelow, are_apart, IsJoined, added_to, gathered, quotient_names}
 use Rattle.md_local.specs.Substitution.{IsOverQuotient}
 use Rattle.md_local.proofs.Ordering.{child_of_in, in_of_child, head_least}
 use Rattle.md_local.proofs.Joining.{AreTrees, only_in, joined_tree}
@@ -48,16 +51,6 @@ module _ (g : PlainGraph) (u v : ℕ) where
   grown_length [] (x ∷ xs) are = absurd are
   grown_length (t ∷ ts) [] are = absurd are
   grown_length (t ∷ ts) (x ∷ xs) are = ap (λ n. suc n) (grown_length ts xs are.1)
-
-  pub grown_front : (us bs : List PlainTree) (xs : List Grown) → AreGrownFrom g u v (us ++ bs) xs → AreGrownFrom g u v us (take (length us) xs)
-  grown_front [] bs xs are = tt
-  grown_front (t ∷ us) bs [] are = absurd are
-  grown_front (t ∷ us) bs (x ∷ xs) are = (are.0, grown_front us bs xs are.1)
-
-  pub grown_back : (us bs : List PlainTree) (xs : List Grown) → AreGrownFrom g u v (us ++ bs) xs → AreGrownFrom g u v bs (drop (length us) xs)
-  grown_back [] bs xs are = are
-  grown_back (t ∷ us) bs [] are = absurd are
-  grown_back (t ∷ us) bs (x ∷ xs) are = grown_back us bs xs are.1
 
   pub grown_more : (us : List PlainTree) (xs : List Grown) (t : PlainTree) (x : Grown) → AreGrownFrom g u v us xs → IsGrownFrom g u v t x → AreGrownFrom g u v (us ++ t ∷ []) (xs ++ x ∷ [])
   grown_more [] [] t x are is = (is, tt)
@@ -514,19 +507,42 @@ module _ (g : PlainGraph) (u v : ℕ) where
           let put : IsJoined k ps grown.0 (plain tree) = subst (λ l. IsJoined k ps l (plain tree)) (made ∙ grown.2 []) joined in
           subst (IsTreeOf (adjacent g) (names_below cs)) (sym put.2) (joined_tree old.adjacency old.after k cs ps each grown.0 grown.1 d.0 d.1 d.2 put.0 put.1)
 
-  -- ---- the stack
+  -- ---- what has grown of trees in a row
 
-  pub enough : (us bs : List PlainTree) (xs : List Grown) → AreGrownFrom g u v (us ++ bs) xs → (n m : ℕ) → n ≡ length bs → m ≡ length xs → n ≤ m
-  enough us bs xs are n m number long = let all = grown_length (us ++ bs) xs are in let both = length-append us bs in omega arith
+  gathered_more : (us : List PlainTree) (xs : List Grown) (x : Grown) → gathered us (xs ++ x ∷ []) ≡ added_to (gathered us xs) x.growth
+  gathered_more us [] x = refl
+  gathered_more us (y ∷ xs) x = gathered_more (added_to us y.growth) xs x
 
-  module _ (us bs : List PlainTree) (xs : List Grown) (are : AreGrownFrom g u v (us ++ bs) xs) (n : ℕ) (below : ℕ) (number : n ≡ length bs) (at : below ≡ length xs - n) where
-    place_is : below ≡ length us
-    place_is = let all = grown_length (us ++ bs) xs are in let long = length-append us bs in omega arith
+  any_more : (f : Grown → Bool) (xs : List Grown) (x : Grown) → list_any f (xs ++ x ∷ []) ≡ (list_any f xs || f x)
+  any_more f xs x = list_any-append f xs (x ∷ []) ∙ ap (λ b. list_any f xs || b) (or_false (f x))
 
-    pub children_grown : (ys : List Grown) → ys ≡ drop below xs → AreGrownFrom g u v bs ys
-    children_grown ys cut = subst (AreGrownFrom g u v bs) (sym (cut ∙ ap (λ i. drop i xs) place_is)) (grown_back us bs xs are)
+  pub below_more : (ts : List PlainTree) (t : PlainTree) (old new : Below) (x : Grown) → IsBelow g u v ts old → IsGrownFrom g u v t x → map plain new.list.items ≡ added_to (map plain old.list.items) x.growth →
+      new.left ≡ (old.left || x.left) → new.right ≡ (old.right || x.right) → new.both ≡ (old.both || (x.left && x.right)) → IsBelow g u v (ts ++ t ∷ []) new
+  below_more ts t old new x is grown more l r b = record {
+    grown = is.grown ++ x ∷ [];
+    each = grown_more ts is.grown t x is.each grown;
+    list = more ∙ ap (λ l. added_to l x.growth) is.list ∙ sym (gathered_more [] is.grown x);
+    left = l ∙ ap (λ c. c || x.left) is.left ∙ sym (any_more (λ y. y.left) is.grown x);
+    right = r ∙ ap (λ c. c || x.right) is.right ∙ sym (any_more (λ y. y.right) is.grown x);
+    both = b ∙ ap (λ c. c || (x.left && x.right)) is.both ∙ sym (any_more (λ y. y.left && y.right) is.grown x);
+  }
 
-    pub stack_grown : (ws zs : List Grown) (t : PlainTree) (x : Grown) → ws ≡ take below xs → zs ≡ ws ++ x ∷ [] → IsGrownFrom g u v t x → AreGrownFrom g u v (us ++ t ∷ []) zs
-    stack_grown ws zs t x kept push is =
-        subst (AreGrownFrom g u v (us ++ t ∷ [])) (sym (push ∙ ap (λ l. l ++ x ∷ []) (kept ∙ ap (λ i. take i xs) place_is)))
-        (grown_more us (take (length us) xs) t x (grown_front us bs xs are) is)
+  pub below_leaf : (ts : List PlainTree) (name : ℕ) (old new : Below) → IsBelow g u v ts old → (eqb name u || eqb name v) ≡ false → new.list.items ≡ old.list.items ++ Leaf name ∷ [] →
+      new.left ≡ old.left → new.right ≡ old.right → new.both ≡ old.both → IsBelow g u v (ts ++ leaf name ∷ []) new
+  below_leaf ts name old new is other push l r b =
+      let no_left : eqb name u ≡ false = (none_of (eqb name u) (eqb name v) other).0 in
+      let no_right : eqb name v ≡ false = (none_of (eqb name u) (eqb name v) other).1 in
+      let x : Grown = record { growth = Whole (Leaf name); left = false; right = false } in
+      below_more ts (leaf name) old new x is
+      (other_grown name (Leaf name) x refl refl (sym no_left) (sym no_right) refl)
+      (map_one_more plain new.list.items old.list.items (Leaf name) push)
+      (l ∙ sym (or_false old.left)) (r ∙ sym (or_false old.right)) (b ∙ sym (or_false old.both))
+    where
+      none_of : (a b : Bool) → (a || b) ≡ false → (a ≡ false) × (b ≡ false)
+      none_of true b h = absurd (false≢true (sym h))
+      none_of false b h = (refl, h)
+
+  pub below_apart : (ts : List PlainTree) (below : Below) (is : IsBelow g u v ts below) → ((below.left && below.right) && not below.both) ≡ are_apart is.grown
+  below_apart ts below is =
+      ap (λ b. (b && below.right) && not below.both) is.left ∙ ap (λ b. (list_any (λ x. x.left) is.grown && b) && not below.both) is.right
+      ∙ ap (λ b. (list_any (λ x. x.left) is.grown && list_any (λ x. x.right) is.grown) && not b) is.both

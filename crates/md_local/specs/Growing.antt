@@ -19,6 +19,7 @@ use Rattle.md_tree.specs.Parts.{below_node}
 use Rattle.md_tree.specs.Plain.{plain}
 use Rattle.md_tree.specs.StrongTrees.{IsTreeOf}
 use Rattle.md_tree.specs.WellFormed.{AreDisjoint}
+use Rattle.md_local.specs.declared.growing.Below.{Below}
 use Rattle.md_local.specs.declared.growing.Grown.{Grown}
 use Rattle.md_local.specs.declared.growing.Growth.{Growth}
 use Rattle.md_local.specs.declared.growing.Growth.TheVariants.{Whole, Hanging}
@@ -134,6 +135,15 @@ added_to us (Hanging ts) = map plain ts.items ++ us
 abbrev pub gathered : List PlainTree → List Grown → List PlainTree
 gathered us [] = us
 gathered us (x ∷ xs) = gathered (added_to us x.growth) xs
+
+-- all that has grown of the trees in one list, and whether some hold u, some hold v, and one holds both
+pub record IsBelow (g : PlainGraph) (u v : ℕ) (ts : List PlainTree) (below : Below) : Type 0 where
+  pub grown : List Grown
+  pub each : AreGrownFrom g u v ts grown
+  pub list : map plain below.list.items ≡ gathered [] grown
+  pub left : below.left ≡ list_any (λ x. x.left) grown
+  pub right : below.right ≡ list_any (λ x. x.right) grown
+  pub both : below.both ≡ list_any (λ x. x.left && x.right) grown
 
 -- the heads of the trees, and u and v
 abbrev pub quotient_names : List PlainTree → ℕ → ℕ → NameSet

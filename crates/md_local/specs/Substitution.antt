@@ -1,7 +1,7 @@
 -- Trees in place of the leaves of a tree.
 -- Source: substitution, as in Habib and Paul, A survey of the algorithmic aspects of modular
 -- decomposition: a graph is put together from the quotient of a modular partition and its parts.
-use Rattle.std.specs.Prelude.{◌≡◌, ◌-◌, ℕ, Bool, nat_eq, cond, List, [], ◌∷◌, ◌++◌, length, take, drop, get_or, Option, Some, None, ⊤}
+use Rattle.std.specs.Prelude.{◌≡◌, ◌-◌, ℕ, Bool, true, false, nat_eq, cond, List, [], ◌∷◌, ◌++◌, length, take, drop, get_or, Option, Some, None, ⊤}
 use Rattle.md_graph.specs.Sets.{NameSet, Has}
 use Rattle.md_graph.specs.Adjacency.{IsAdjacency}
 use Rattle.md_modules.specs.Quotients.{IsModularPartition, class}
@@ -10,7 +10,7 @@ use Rattle.md_tree.specs.declared.Kind.{Kind}
 use Rattle.md_tree.specs.declared.Pair.{Pair}
 use Rattle.md_tree.specs.declared.TreeOf.{TreeOf}
 use Rattle.md_tree.specs.Heads.{head}
-use Rattle.md_tree.specs.Parts.{below_node}
+use Rattle.md_tree.specs.Parts.{PlainPart, name, inner}
 use Rattle.md_tree.specs.Plain.{plain}
 use Rattle.md_tree.specs.Trees.{PlainTree, leaf, node, PlainTrees, no_tree, one_more}
 use Rattle.md_tree.specs.StrongTrees.{IsTreeOf}
@@ -41,6 +41,11 @@ TreesAreSubstituted =
     (t u : PlainTree) → IsTreeOf e r t →
     IsSubstituted (λ x part. IsTreeOf e (class s rep x) part) t u → IsTreeOf e s u
 
+-- the tree is no leaf
+abbrev pub is_inner : PlainTree → Bool
+is_inner (leaf x) = false
+is_inner (node k cs ps) = true
+
 -- the first of the trees that has the name as its head, and the name's leaf where none has
 abbrev pub tree_at : List PlainTree → ℕ → PlainTree
 tree_at [] x = leaf x
@@ -61,14 +66,10 @@ tree_or_leaf x (Some t) = plain t
 abbrev pub standing_at : List (Option (TreeOf Kind Pair)) → ℕ → PlainTree
 standing_at places x = tree_or_leaf x (get_or places x None)
 
--- u is the tree at the leaf's place, or joins the trees as the node does its children
-abbrev pub StandsFor : (ℕ → PlainTree) → PlainTree → List PlainTree → PlainTree → Type 0
-StandsFor place (leaf x) us u = u ≡ place x
-StandsFor place (node k cs ps) us u = IsJoined k ps us u
-
--- of a stack the last trees, as many as the node has children, give way to the one that is put
--- for the node
-abbrev pub IsStackTurn : (ℕ → PlainTree) → PlainTree → List PlainTree → List PlainTree → Type 0
-IsStackTurn place t old new =
-    (u : PlainTree) × StandsFor place t (drop (length old - length (below_node t)) old) u ×
-    (new ≡ take (length old - length (below_node t)) old ++ u ∷ [])
+-- of a stack the last trees, as many as the part has children, give way to the one that is put for
+-- the part: the tree at the leaf's place, or one that joins the trees as the node does its children
+abbrev pub IsPartTurn : (ℕ → PlainTree) → PlainPart → List PlainTree → List PlainTree → Type 0
+IsPartTurn place (name x) old new = new ≡ old ++ place x ∷ []
+IsPartTurn place (inner k n ps) old new =
+    (u : PlainTree) × IsJoined k ps (drop (length old - n) old) u ×
+    (new ≡ take (length old - n) old ++ u ∷ [])

@@ -1,7 +1,6 @@
 //! What grows of the nodes of a tree when an edge comes or goes, from the leaves up.
-ghost use Rattle.std.specs.Prelude.{◌≡◌, ◌≤◌, ◌+◌, ◌*◌, ◌∷◌, [], ◌++◌, ◌&&◌, false, cond, ℕ, Bool, map, IfOk, List};
+ghost use Rattle.std.specs.Prelude.{◌≡◌, ◌<◌, ◌≤◌, ◌+◌, ◌*◌, ◌∷◌, [], ◌++◌, ◌&&◌, ◌||◌, not, false, cond, nat_eq, ℕ, Bool, map, IfOk, List};
 ghost use Rattle.std.specs.FinSet.{contains, insert, len, intersection};
-ghost use Rattle.std.specs.List.{list_any};
 ghost use Rattle.md_graph.specs.NameSet.{AllBelow};
 ghost use Rattle.md_graph.specs.PlainGraph.{PlainGraph, adjacent};
 ghost use Rattle.md_graph.specs.Sets.{Has};
@@ -9,12 +8,14 @@ ghost use Rattle.md_tree.specs.Parts.{below_node};
 ghost use Rattle.md_tree.specs.Plain.{plain};
 ghost use Rattle.md_tree.specs.Trees.{PlainTree, leaf};
 ghost use Rattle.md_local.specs.declared.growing.Growth.TheVariants.{Whole};
-ghost use Rattle.md_local.specs.Growing.{own_steps, IsOld, AreGrownFrom, IsGrownFrom, is_hanging, one_alone, are_apart, added_to, gathered, quotient_names};
+ghost use Rattle.md_local.specs.Growing.{own_steps, IsOld, IsGrownFrom, IsBelow, is_hanging, one_alone, added_to, quotient_names};
 ghost use Rattle.md_local.specs.Substitution.{IsOverQuotient};
+ghost use Rattle.md_local.specs.Walks.{IsWay, HasPassed, HasMore, HasTurned, ahead, still_ahead, turns_ahead, turns_still_ahead};
 
 use crate::hanging::substitute;
-use crate::merging::{first_leaf, join, number_below};
-use crate::part::decompose_part;
+use crate::merging::{first_leaf, join};
+use crate::part::{copied_pairs, decompose_part};
+use crate::walking::{Open, Turn, children_of};
 use md_graph::{GraphOf, Memory, Set, Steps};
 use md_tree::Tree;
 use std::alloc::Global;
@@ -36,30 +37,144 @@ pub(crate) struct Grown {
     pub right: bool,
 }
 
-// What grows of a node comes on top of the stack, in place of what grew of its children.
-pub(crate) fn take_turn<L: Ledger, const W: usize>(
+// All that has grown of trees in a row in one list, and whether some hold the left end of the edge,
+// some hold the right end, and one holds both.
+#[derive(Drop)]
+pub(crate) struct Below {
+    pub list: Vec<Tree>,
+    pub left: bool,
+    pub right: bool,
+    pub both: bool,
+}
+
+// A node none of whose children was looked at.
+pub(crate) fn open_node<'a>(alloc: Global, tree: &'a Tree) -> Result<Open<'a, Below>, Memory>
+    ensures tree { IfOk result (λ node. plain node.tree.now ≡ plain tree.now) }
+    ensures rest { IfOk result (λ node.
+        map plain node.rest.now ≡ below_node (plain tree.now)) }
+    ensures below { IfOk result (λ node. (g : PlainGraph) (u v : ℕ)
+        → IsBelow g u v [] node.below) }
+{
+    let rest = children_of(tree);
+    let list = Vec::with_capacity(alloc, rest.len())?;
+    let below = Below {
+        list,
+        left: false,
+        right: false,
+        both: false,
+    };
+    Ok(Open { tree, rest, below })
+}
+
+// One turn of the walk over the tree of the graph before: down to the next child that is no leaf,
+// or back up with what has grown of the node. `path` are the nodes above.
+pub(crate) fn take_turn<'a, L: Ledger, const W: usize>(
     alloc: Global,
     graph: &GraphOf<W>,
-    node: &Tree,
+    current: Open<'a, Below>,
+    path: &mut Vec<Open<'a, Below>>,
     u: u32,
     v: u32,
-    stack: &mut Vec<Grown>,
     work: &mut Steps<L>,
-) -> Result<(), Memory>
+) -> Result<Turn<'a, Below, Grown>, Memory>
     requires left { Has graph.now.vertices u }
-    requires old { (e : ℕ → ℕ → Bool) × IsOld graph.now u v e (plain node.now) }
-    requires below { (us : List PlainTree)
-        × AreGrownFrom graph.now u v (us ++ below_node (plain node.now)) stack.old.items }
-    ensures grown { IfOk result (λ _. (us : List PlainTree)
-        → AreGrownFrom graph.now u v (us ++ below_node (plain node.now)) stack.old.items
-        → AreGrownFrom graph.now u v (us ++ plain node.now ∷ []) stack.new.items) }
-    ensures work { work.new ≤ work.old + own_steps u v (plain node.now) }
+    requires way { (e : ℕ → ℕ → Bool) × (t : PlainTree) × IsOld graph.now u v e t
+        × IsWay (IsBelow graph.now u v) t path.old.items current }
+    ensures turn { IfOk result (λ turn. (t : PlainTree)
+        → IsWay (IsBelow graph.now u v) t path.old.items current.entry
+        → HasTurned (IsBelow graph.now u v) (IsGrownFrom graph.now u v) t path.new.items turn) }
+    ensures fewer { IfOk result (λ turn. turns_still_ahead path.new.items turn
+        < turns_ahead path.old.items current.entry) }
+    ensures rest { IfOk result (λ turn.
+        work.new + still_ahead (own_steps u v) (own_steps u v) path.new.items turn
+        ≤ work.old + ahead (own_steps u v) (own_steps u v) path.old.items current.entry) }
+    ensures work { work.new
+        ≤ work.old + ahead (own_steps u v) (own_steps u v) path.old.items current.entry }
 {
-    let below = stack.len() - number_below(node);
-    let children = stack.split_off(below)?;
-    let grown = grow(alloc, graph, node, u, v, children, work)?;
-    stack.push(grown)?;
+    let node = pass_leaves(alloc, current, u, v)?;
+    let Open { tree, rest, below } = node;
+    if let Some((child, rest)) = rest.split_first() {
+        path.push(Open { tree, rest, below })?;
+        return Ok(Turn::Onward(open_node(alloc, child)?));
+    }
+    let grown = grow(alloc, graph, tree, u, v, below, work)?;
+    match path.pop() {
+        Some(above) => Ok(Turn::Onward(with_grown(above, grown)?)),
+        None => Ok(Turn::End(grown)),
+    }
+}
+
+// The node when the leaves that come next are looked at.
+fn pass_leaves<'a>(
+    alloc: Global,
+    node: Open<'a, Below>,
+    u: u32,
+    v: u32,
+) -> Result<Open<'a, Below>, Memory>
+    ensures { IfOk result (λ passed. (g : PlainGraph)
+        → HasPassed (IsBelow g u v) node.entry passed) }
+{
+    let Open {
+        tree,
+        mut rest,
+        mut below,
+    } = node;
+    while let Some((Tree::Leaf(name), others)) = rest.split_first() {
+        add_leaf(alloc, &mut below, *name, u, v)?;
+        rest = others;
+    }
+    Ok(Open { tree, rest, below })
+}
+
+// Adds what grows of a leaf.
+fn add_leaf(alloc: Global, below: &mut Below, name: u32, u: u32, v: u32) -> Result<(), Memory>
+    ensures { IfOk result (λ _. (g : PlainGraph) (ts : List PlainTree)
+        → IsBelow g u v ts below.old → IsBelow g u v (ts ++ leaf name ∷ []) below.new) }
+{
+    if is_end(name, u, v) {
+        return add_grown(below, leaf_grown(alloc, name, u, v));
+    }
+    below.list.push(Tree::Leaf(name))?;
     Ok(())
+}
+
+// Whether a name is one of the ends of the edge.
+fn is_end(name: u32, u: u32, v: u32) -> bool
+    ensures { result ≡ (nat_eq name u || nat_eq name v) }
+{
+    (name == u) | (name == v)
+}
+
+// Adds what has grown of one more tree.
+fn add_grown(below: &mut Below, grown: Grown) -> Result<(), Memory>
+    ensures { IfOk result (λ _. (g : PlainGraph) (u v : ℕ) (ts : List PlainTree) (t : PlainTree)
+        → IsBelow g u v ts below.old → IsGrownFrom g u v t grown
+        → IsBelow g u v (ts ++ t ∷ []) below.new) }
+{
+    let Grown {
+        growth,
+        left,
+        right,
+    } = grown;
+    add(&mut below.list, growth)?;
+    below.both = below.both | (left & right);
+    below.left = below.left | left;
+    below.right = below.right | right;
+    Ok(())
+}
+
+// The node above, with what has grown of its child.
+fn with_grown<'a>(above: Open<'a, Below>, grown: Grown) -> Result<Open<'a, Below>, Memory>
+    ensures { IfOk result (λ node. (g : PlainGraph) (u v : ℕ) (t : PlainTree)
+        → IsGrownFrom g u v t grown → HasMore (IsBelow g u v) t above.entry node) }
+{
+    let Open {
+        tree,
+        rest,
+        mut below,
+    } = above;
+    add_grown(&mut below, grown)?;
+    Ok(Open { tree, rest, below })
 }
 
 // What grows of a node whose children have grown.
@@ -69,24 +184,27 @@ fn grow<L: Ledger, const W: usize>(
     node: &Tree,
     u: u32,
     v: u32,
-    children: Vec<Grown>,
+    below: Below,
     work: &mut Steps<L>,
 ) -> Result<Grown, Memory>
     requires left { Has graph.now.vertices u }
     requires old { (e : ℕ → ℕ → Bool) × IsOld graph.now u v e (plain node.now) }
-    requires below { AreGrownFrom graph.now u v (below_node (plain node.now)) children.items }
+    requires below { IsBelow graph.now u v (below_node (plain node.now)) below }
     ensures grown { IfOk result (λ grown. IsGrownFrom graph.now u v (plain node.now) grown) }
     ensures work { work.new ≤ work.old + own_steps u v (plain node.now) }
 {
     match node {
         Tree::Leaf(name) => Ok(leaf_grown(alloc, *name, u, v)),
         Tree::Node(kind, _, edges) => {
-            let left = some_left(&children);
-            let right = some_right(&children);
-            let apart = ends_apart(&children);
-            let below = gather(alloc, children)?;
+            let apart = ends_apart(&below);
+            let Below {
+                list,
+                left,
+                right,
+                both: _,
+            } = below;
             if apart {
-                let tree = fresh(alloc, graph, below, u, v, work)?;
+                let tree = fresh(alloc, graph, list, u, v, work)?;
                 return Ok(Grown {
                     growth: Growth::Whole(tree),
                     left,
@@ -95,12 +213,13 @@ fn grow<L: Ledger, const W: usize>(
             }
             if is_one_alone(left, right) {
                 return Ok(Grown {
-                    growth: Growth::Hanging(below),
+                    growth: Growth::Hanging(list),
                     left,
                     right,
                 });
             }
-            let tree = join(alloc, *kind, edges, below)?;
+            let edges = copied_pairs(alloc, edges)?;
+            let tree = join(alloc, *kind, edges, list)?;
             Ok(Grown {
                 growth: Growth::Whole(tree),
                 left,
@@ -148,43 +267,11 @@ fn is_one_alone(left: bool, right: bool) -> bool
     if left { !right } else { right }
 }
 
-// Whether one of the nodes holds the left end.
-fn some_left(children: &[Grown]) -> bool
-    ensures { result ≡ list_any (λ x. x.left) children.now }
+// Whether the trees hold both ends, and none holds both.
+fn ends_apart(below: &Below) -> bool
+    ensures { result ≡ ((below.now.left && below.now.right) && not below.now.both) }
 {
-    children.iter().any(|child| child.left)
-}
-
-// Whether one of the nodes holds the right end.
-fn some_right(children: &[Grown]) -> bool
-    ensures { result ≡ list_any (λ x. x.right) children.now }
-{
-    children.iter().any(|child| child.right)
-}
-
-// Whether one of the nodes holds both ends.
-fn some_both(children: &[Grown]) -> bool
-    ensures { result ≡ list_any (λ x. x.left && x.right) children.now }
-{
-    children.iter().any(|child| child.left & child.right)
-}
-
-// Whether the nodes hold both ends, and none holds both.
-fn ends_apart(children: &[Grown]) -> bool
-    ensures { result ≡ are_apart children.now }
-{
-    some_left(children) & some_right(children) & !some_both(children)
-}
-
-// All that has grown of nodes, in one list.
-fn gather(alloc: Global, children: Vec<Grown>) -> Result<Vec<Tree>, Memory>
-    ensures { IfOk result (λ list. map plain list.items ≡ gathered [] children.items) }
-{
-    let mut list = Vec::with_capacity(alloc, children.len())?;
-    for child in children {
-        add(&mut list, child.growth)?;
-    }
-    Ok(list)
+    below.left & below.right & !below.both
 }
 
 // Appends a tree; trees that hang stay where they are, and those of the list come behind them: on a
@@ -225,7 +312,7 @@ fn fresh<L: Ledger, const W: usize>(
     let _vertices = graph.vertices();
     let names = vertices_of(graph, &hanging, u, v);
     match decompose_part(alloc, graph, &names, work)? {
-        Some(quotient) => substitute(alloc, &quotient, hanging),
+        Some(quotient) => substitute(alloc, quotient, hanging),
         None => unreachable!(),
     }
 }

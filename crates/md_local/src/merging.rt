@@ -1,22 +1,23 @@
 //! A node over trees, of which some are merged into it.
-ghost use Rattle.std.specs.Prelude.{◌≡◌, ◌++◌, map, IfOk, length};
+ghost use Rattle.std.specs.Prelude.{◌≡◌, ◌++◌, map, IfOk};
 ghost use Rattle.std.specs.List.{list_any};
 ghost use Rattle.md_tree.specs.Heads.{head};
 ghost use Rattle.md_tree.specs.Parts.{below_node};
 ghost use Rattle.md_tree.specs.Plain.{plain};
 ghost use Rattle.md_local.specs.Growing.{IsJoined, AreOrdered, are_one_split, is_merged, in_place_of};
+ghost use Rattle.md_local.specs.Substitution.{is_inner};
 
 use md_graph::Memory;
 use md_tree::{Children, Kind, Pair, QuotientEdges, Tree};
 use std::alloc::Global;
 
-// How many children a node has.
-pub(crate) fn number_below(node: &Tree) -> usize
-    ensures { result ≡ length (below_node (plain node.now)) }
+// Whether a tree is no leaf.
+pub(crate) fn is_node(tree: &Tree) -> bool
+    ensures { result ≡ is_inner (plain tree.now) }
 {
-    match node {
-        Tree::Leaf(_) => 0,
-        Tree::Node(_, children, _) => children.len() as usize,
+    match tree {
+        Tree::Leaf(_) => false,
+        Tree::Node(_, _, _) => true,
     }
 }
 
@@ -25,15 +26,14 @@ pub(crate) fn number_below(node: &Tree) -> usize
 pub(crate) fn join(
     alloc: Global,
     kind: Kind,
-    edges: &QuotientEdges,
+    edges: QuotientEdges,
     children: Vec<Tree>,
 ) -> Result<Tree, Memory>
-    ensures { IfOk result (λ tree. IsJoined kind edges.now.list.items
+    ensures { IfOk result (λ tree. IsJoined kind edges.list.items
         (map plain children.items) (plain tree)) }
 {
-    let edges = Vec::from_slice(alloc, &edges.list)?;
     let list = ordered(alloc, kind, children)?;
-    Ok(Tree::Node(kind, Children { list }, QuotientEdges { list: edges }))
+    Ok(Tree::Node(kind, Children { list }, edges))
 }
 
 // The trees, each that can't be a child of a node of the kind with its own children in its place,

@@ -1,16 +1,17 @@
-//! The tree of a part of a graph, and an equal tree.
-ghost use Rattle.std.specs.Prelude.{◌≡◌, ◌+◌, IfOk};
+//! The tree of a part of a graph, and the parts of a tree.
+ghost use Rattle.std.specs.Prelude.{◌≡◌, ◌+◌, ◌++◌, ◌∷◌, [], map, IfOk};
 ghost use Rattle.std.specs.FinSet.{len};
 ghost use Rattle.md_graph.specs.PlainGraph.{adjacent};
 ghost use Rattle.md_graph.specs.Sets.{Within};
 ghost use Rattle.md_tree.specs.Plain.{plain, plain_option};
-ghost use Rattle.md_tree.specs.Parts.{part_of, plain_part};
+ghost use Rattle.md_tree.specs.Parts.{below_node, part_of, parts_of, plain_part};
 ghost use Rattle.md_tree.specs.StrongTrees.{IsTree};
 
 use md_decompose::decompose_within;
 use md_graph::{GraphOf, Memory, Set, Steps};
-use md_tree::{Part, QuotientEdges, Tree, build, nodes_of};
+use md_tree::{Part, QuotientEdges, Tree};
 use std::alloc::Global;
+use std::mem;
 use std::sync::ledger::Ledger;
 
 /// The tree of the strong modules of the graph on a set of its vertices, none exactly for the set
@@ -33,28 +34,51 @@ pub fn decompose_part<L: Ledger, const W: usize>(
     decompose_within(alloc, graph, names)
 }
 
-/// A tree that equals another one. No call nests as deep as the tree. Errors: want of memory.
-pub fn copy_tree(alloc: Global, tree: &Tree) -> Result<Tree, Memory>
-    ensures copy { IfOk result (λ copy. plain copy ≡ plain tree.now) }
+// Equal pairs. `from_clones` goes over them with several in each turn, `from_slice` one by one.
+pub(crate) fn copied_pairs(alloc: Global, edges: &QuotientEdges) -> Result<QuotientEdges, Memory>
+    ensures { IfOk result (λ copy. copy.list.items ≡ edges.now.list.items) }
 {
-    let nodes = nodes_of(alloc, tree)?;
-    let mut parts = Vec::with_capacity(alloc, nodes.len())?;
-    for node in nodes {
-        let part = part_of_node(alloc, node)?;
-        parts.push_reserved(part);
-    }
-    build(alloc, parts)
+    let list = Vec::from_clones(alloc, &edges.list)?;
+    Ok(QuotientEdges { list })
 }
 
-// A node of a tree without those below it.
-fn part_of_node(alloc: Global, node: &Tree) -> Result<Part, Memory>
-    ensures { IfOk result (λ part. plain_part part ≡ part_of (plain node.now)) }
+// The parts of a tree, which is taken apart: each node before its children, and these from the last
+// to the first. Room for `room` of them is taken at once.
+pub(crate) fn parts_of_tree(alloc: Global, tree: Tree, room: usize) -> Result<Vec<Part>, Memory>
+    ensures { IfOk result (λ parts. map plain_part parts.items ≡ parts_of (plain tree)) }
 {
-    match node {
-        Tree::Leaf(name) => Ok(Part::Leaf(*name)),
+    let mut parts = Vec::with_capacity(alloc, room)?;
+    let mut waiting = Vec::with_capacity(alloc, room)?;
+    waiting.push(tree)?;
+    while let Some(next) = waiting.pop() {
+        take_apart(alloc, next, &mut parts, &mut waiting)?;
+    }
+    Ok(parts)
+}
+
+// The part that is the root of a tree comes behind the parts, and its children behind what waits.
+fn take_apart(
+    alloc: Global,
+    tree: Tree,
+    parts: &mut Vec<Part>,
+    waiting: &mut Vec<Tree>,
+) -> Result<(), Memory>
+    ensures part { IfOk result (λ _. map plain_part parts.new.items
+        ≡ map plain_part parts.old.items ++ part_of (plain tree) ∷ []) }
+    ensures waiting { IfOk result (λ _. map plain waiting.new.items
+        ≡ map plain waiting.old.items ++ below_node (plain tree)) }
+{
+    let mut tree = tree;
+    match &mut tree {
+        Tree::Leaf(name) => {
+            parts.push(Part::Leaf(*name))?;
+            return Ok(());
+        }
         Tree::Node(kind, children, edges) => {
-            let list = Vec::from_slice(alloc, &edges.list)?;
-            Ok(Part::Node(*kind, children.len(), QuotientEdges { list }))
+            let list = mem::replace(&mut edges.list, Vec::new(alloc));
+            parts.push(Part::Node(*kind, children.len(), QuotientEdges { list }))?;
+            waiting.append(&mut children.list)?;
+            return Ok(());
         }
     }
 }

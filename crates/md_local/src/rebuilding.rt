@@ -8,9 +8,10 @@ ghost use Rattle.md_tree.specs.StrongTrees.{IsTreeOf};
 ghost use Rattle.md_local.specs.Changes.{IsLeastStrong};
 ghost use Rattle.md_local.specs.Edits.{IsEdited};
 
-use crate::growing::{take_turn, whole_tree};
+use crate::growing::{open_node, take_turn, whole_tree};
+use crate::walking::Turn;
 use md_graph::{GraphOf, Memory, Steps};
-use md_tree::{Tree, nodes_of};
+use md_tree::Tree;
 use std::alloc::Global;
 use std::sync::ledger::Ledger;
 
@@ -40,13 +41,12 @@ pub fn rebuild<L: Ledger, const W: usize>(
         → IsLeastStrong (adjacent before) before.vertices u v w → work.new ≤ work.old + len w }
 {
     let _vertices = graph.vertices();
-    let mut nodes = nodes_of(alloc, tree)?;
-    let mut stack = Vec::new(alloc);
-    while let Some(node) = nodes.pop() {
-        take_turn(alloc, graph, node, u, v, &mut stack, work)?;
-    }
-    match stack.pop() {
-        Some(grown) => Ok(whole_tree(grown)),
-        None => unreachable!(),
+    let mut path = Vec::new(alloc);
+    let mut current = open_node(alloc, tree)?;
+    loop {
+        match take_turn(alloc, graph, current, &mut path, u, v, work)? {
+            Turn::Onward(next) => current = next,
+            Turn::End(grown) => return Ok(whole_tree(grown)),
+        }
     }
 }

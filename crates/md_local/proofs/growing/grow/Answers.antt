@@ -1,11 +1,9 @@
-use Rattle.std.proofs.Common.{map, refl, sym, ◌∙◌, ap, subst}
-use Rattle.std.specs.List.{list_any}
+use Rattle.std.proofs.Common.{map, refl, sym, ◌∙◌, subst}
 use Rattle.md_tree.specs.Plain.{plain, row_of_children}
 use Rattle.md_tree.proofs.Plain.{plain_is_leaf, plain_is_node}
-use Rattle.md_local.specs.declared.growing.Grown.{Grown}
 use Rattle.md_local.specs.declared.growing.Growth.TheVariants.{Whole, Hanging}
-use Rattle.md_local.specs.Growing.{IsGrownFrom, are_apart}
-use Rattle.md_local.proofs.Turns.{node_joined, node_fresh, node_alone, apart_steps}
+use Rattle.md_local.specs.Growing.{IsGrownFrom, IsJoined}
+use Rattle.md_local.proofs.Turns.{node_joined, node_fresh, node_alone, apart_steps, below_apart}
 use Rattle.md_local.proofs.QuotientNames.{more_steps}
 use Rattle.md_local.proofs.growing.grow.Goals as goal
 
@@ -15,43 +13,48 @@ returns-in-Leaf-clause-grown g c =
 
 pub returns-in_err-tree-in-Node-clause-work : goal.returns-in_err-tree-in-Node-clause-work
 returns-in_err-tree-in-Node-clause-work g c =
+    let is = c.requires.below in
     more_steps _ _ _ _ c.fresh.ensures.work
     (apart_steps c.args.graph.now c.args.u c.args.v (plain c.args.node.now) c.in-Node.kind (row_of_children c.in-Node.field-1) c.in-Node.edges.list.items
-    (plain_is_node c.args.node.now c.in-Node.kind c.in-Node.field-1 c.in-Node.edges c.in-Node.is) c.args.children.items c.requires.below
-    c.requires.old.0 c.requires.old.1 (sym (ap are_apart c.deref-in-Node-2.ensures.value) ∙ sym c.ends_apart-apart.ensures ∙ c.if-apart.true)
-    (map plain c.in_ok-below-in-Node.below.items) c.in_ok-below-in-Node.ensures)
+    (plain_is_node c.args.node.now c.in-Node.kind c.in-Node.field-1 c.in-Node.edges c.in-Node.is) is.grown is.each
+    c.requires.old.0 c.requires.old.1 (sym (below_apart c.args.graph.now c.args.u c.args.v _ c.args.below is) ∙ sym c.ends_apart-apart.ensures ∙ c.if-apart.true)
+    (map plain c.args.below.list.items) is.list)
 
 pub returns-then-apart-clause-grown : goal.returns-then-apart-clause-grown
 returns-then-apart-clause-grown g c =
+    let is = c.requires.below in
     node_fresh c.args.graph.now c.args.u c.args.v (plain c.args.node.now) c.in-Node.kind (row_of_children c.in-Node.field-1) c.in-Node.edges.list.items
-    (plain_is_node c.args.node.now c.in-Node.kind c.in-Node.field-1 c.in-Node.edges c.in-Node.is) c.args.children.items c.requires.below
-    (record { growth = Whole c.in_ok-tree-in-Node.tree; left = c.some_left-left.result; right = c.some_right-right.result })
-    c.in_ok-tree-in-Node.tree refl (c.some_left-left.ensures ∙ ap (list_any (λ (x : Grown). x.left)) c.deref.ensures.value) (c.some_right-right.ensures ∙ ap (list_any (λ (x : Grown). x.right)) c.deref-in-Node.ensures.value)
-    (sym (ap are_apart c.deref-in-Node-2.ensures.value) ∙ sym c.ends_apart-apart.ensures ∙ c.if-apart.true)
-    (map plain c.in_ok-below-in-Node.below.items) c.in_ok-below-in-Node.ensures c.in_ok-tree-in-Node.ensures.tree
+    (plain_is_node c.args.node.now c.in-Node.kind c.in-Node.field-1 c.in-Node.edges c.in-Node.is) is.grown is.each
+    (record { growth = Whole c.in_ok-tree-in-Node.tree; left = c.args.below.left; right = c.args.below.right })
+    c.in_ok-tree-in-Node.tree refl is.left is.right
+    (sym (below_apart c.args.graph.now c.args.u c.args.v _ c.args.below is) ∙ sym c.ends_apart-apart.ensures ∙ c.if-apart.true)
+    (map plain c.args.below.list.items) is.list c.in_ok-tree-in-Node.ensures.tree
 
 pub returns-then-apart-clause-work : goal.returns-then-apart-clause-work
 returns-then-apart-clause-work g c =
+    let is = c.requires.below in
     more_steps _ _ _ _ c.fresh.ensures.work
     (apart_steps c.args.graph.now c.args.u c.args.v (plain c.args.node.now) c.in-Node.kind (row_of_children c.in-Node.field-1) c.in-Node.edges.list.items
-    (plain_is_node c.args.node.now c.in-Node.kind c.in-Node.field-1 c.in-Node.edges c.in-Node.is) c.args.children.items c.requires.below
-    c.requires.old.0 c.requires.old.1 (sym (ap are_apart c.deref-in-Node-2.ensures.value) ∙ sym c.ends_apart-apart.ensures ∙ c.if-apart.true)
-    (map plain c.in_ok-below-in-Node.below.items) c.in_ok-below-in-Node.ensures)
+    (plain_is_node c.args.node.now c.in-Node.kind c.in-Node.field-1 c.in-Node.edges c.in-Node.is) is.grown is.each
+    c.requires.old.0 c.requires.old.1 (sym (below_apart c.args.graph.now c.args.u c.args.v _ c.args.below is) ∙ sym c.ends_apart-apart.ensures ∙ c.if-apart.true)
+    (map plain c.args.below.list.items) is.list)
 
 pub returns-then-is_one_alone-clause-grown : goal.returns-then-is_one_alone-clause-grown
 returns-then-is_one_alone-clause-grown g c =
+    let is = c.requires.below in
     node_alone c.args.graph.now c.args.u c.args.v (plain c.args.node.now) c.in-Node.kind (row_of_children c.in-Node.field-1) c.in-Node.edges.list.items
-    (plain_is_node c.args.node.now c.in-Node.kind c.in-Node.field-1 c.in-Node.edges c.in-Node.is) c.args.children.items c.requires.below
-    (record { growth = Hanging c.in_ok-below-in-Node.below; left = c.some_left-left.result; right = c.some_right-right.result })
-    c.in_ok-below-in-Node.below refl (c.some_left-left.ensures ∙ ap (list_any (λ (x : Grown). x.left)) c.deref.ensures.value) (c.some_right-right.ensures ∙ ap (list_any (λ (x : Grown). x.right)) c.deref-in-Node.ensures.value)
-    (sym c.is_one_alone.ensures ∙ c.if-is_one_alone.true) c.in_ok-below-in-Node.ensures
+    (plain_is_node c.args.node.now c.in-Node.kind c.in-Node.field-1 c.in-Node.edges c.in-Node.is) is.grown is.each
+    (record { growth = Hanging c.args.below.list; left = c.args.below.left; right = c.args.below.right })
+    c.args.below.list refl is.left is.right (sym c.is_one_alone.ensures ∙ c.if-is_one_alone.true) is.list
 
 pub returns-in_ok-tree-in-Node-2-clause-grown : goal.returns-in_ok-tree-in-Node-2-clause-grown
 returns-in_ok-tree-in-Node-2-clause-grown g c =
+    let is = c.requires.below in
     node_joined c.args.graph.now c.args.u c.args.v (plain c.args.node.now) c.in-Node.kind (row_of_children c.in-Node.field-1) c.in-Node.edges.list.items
-    (plain_is_node c.args.node.now c.in-Node.kind c.in-Node.field-1 c.in-Node.edges c.in-Node.is) c.args.children.items c.requires.below
-    (record { growth = Whole c.in_ok-tree-in-Node-2.tree; left = c.some_left-left.result; right = c.some_right-right.result })
-    c.in_ok-tree-in-Node-2.tree refl (c.some_left-left.ensures ∙ ap (list_any (λ (x : Grown). x.left)) c.deref.ensures.value) (c.some_right-right.ensures ∙ ap (list_any (λ (x : Grown). x.right)) c.deref-in-Node.ensures.value)
-    (sym (ap are_apart c.deref-in-Node-2.ensures.value) ∙ sym c.ends_apart-apart.ensures ∙ c.if-apart.false)
+    (plain_is_node c.args.node.now c.in-Node.kind c.in-Node.field-1 c.in-Node.edges c.in-Node.is) is.grown is.each
+    (record { growth = Whole c.in_ok-tree-in-Node-2.tree; left = c.args.below.left; right = c.args.below.right })
+    c.in_ok-tree-in-Node-2.tree refl is.left is.right
+    (sym (below_apart c.args.graph.now c.args.u c.args.v _ c.args.below is) ∙ sym c.ends_apart-apart.ensures ∙ c.if-apart.false)
     (sym c.is_one_alone.ensures ∙ c.if-is_one_alone.false)
-    (map plain c.in_ok-below-in-Node.below.items) c.in_ok-below-in-Node.ensures c.in_ok-tree-in-Node-2.ensures
+    (map plain c.args.below.list.items) is.list
+    (subst (λ l. IsJoined c.in-Node.kind l (map plain c.args.below.list.items) (plain c.in_ok-tree-in-Node-2.tree)) c.in_ok-edges-in-Node.ensures c.in_ok-tree-in-Node-2.ensures)

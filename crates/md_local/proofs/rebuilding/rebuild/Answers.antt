@@ -1,69 +1,65 @@
-use Rattle.std.proofs.Common.{rules, map, sym, ◌∙◌, ap}
-use Rattle.std.proofs.lemmas.List.{nil_from_length}
-use Rattle.std.specs.List.{sum_by}
-use Rattle.md_tree.specs.Parts.{plain_at}
-use Rattle.md_tree.specs.Plain.{plain}
-use Rattle.md_local.specs.Growing.{own_steps}
+use Rattle.std.proofs.Common.{◌+◌, ◌≤◌, rules, subst, arith}
 use Rattle.md_graph.specs.PlainGraph.{adjacent}
-use Rattle.md_local.proofs.Nested.{plain_last}
-use Rattle.md_local.proofs.Rebuilt.{old_whole, old_last, whole_grown, stack_begin, stack_below, stack_more, stack_some, tree_grown, steps_begin, steps_more, steps_few}
+use Rattle.md_tree.specs.Plain.{plain}
+use Rattle.md_local.specs.Growing.{own_steps, names_between, IsGrownFrom, IsBelow}
+use Rattle.md_local.specs.declared.walking.Turn.{Turn}
+use Rattle.md_local.specs.declared.growing.Below.{Below}
+use Rattle.md_local.specs.declared.growing.Grown.{Grown}
+use Rattle.md_local.specs.Walks.{HasTurned, ahead, still_ahead}
+use Rattle.md_local.proofs.Rebuilt.{old_whole, whole_grown, tree_grown, steps_begin, steps_few}
+use Rattle.md_local.proofs.Ways.{way_begin}
 use Rattle.md_local.proofs.rebuilding.rebuild.Goals as goal
 
-pub loop-node-init : goal.loop-node-init
-loop-node-init g c = record {
-  stack = stack_begin c.args.graph.now c.args.u c.args.v (plain c.args.tree.now) _ _ c.in_ok-nodes.ensures.nodes c.new-stack.ensures.items;
-  steps = steps_begin c.args.graph.now c.args.u c.args.v (plain c.args.tree.now) _ c.args.work.now c.in_ok-nodes.ensures.nodes;
+pub loop-path-init : goal.loop-path-init
+loop-path-init g c = record {
+  way =
+      way_begin (IsBelow c.args.graph.now c.args.u c.args.v) (plain c.args.tree.now) _ c.in_ok-current.current c.new-path.ensures.items c.in_ok-current.ensures.tree c.in_ok-current.ensures.rest
+      (c.in_ok-current.ensures.below c.args.graph.now c.args.u c.args.v);
+  steps = steps_begin c.args.graph.now c.args.u c.args.v (plain c.args.tree.now) _ c.in_ok-current.current c.args.work.now c.new-path.ensures.items c.in_ok-current.ensures.tree c.in_ok-current.ensures.rest;
 }
 
 pub take_turn-requires : goal.take_turn-requires
 take_turn-requires g c =
-    let last = plain_last c.loop-node.nodes.items c.pop.new.self.items c.in-Some.node c.in-Some.ensures.items in
     let before = c.requires.tree in
-    let old = old_whole c.args.graph.now c.args.u c.args.v (plain c.args.tree.now) before.0 c.vertices-vertices.ensures.graph before.1 before.2 in (
-      search rules,
-      (
-        c.requires.left,
-        (
-          (adjacent before.0, old_last c.args.graph.now c.args.u c.args.v (plain c.args.tree.now) (adjacent before.0) _ _ (plain_at c.in-Some.node) _ old c.loop-node.invariant.stack last),
-          stack_below c.args.graph.now c.args.u c.args.v (plain c.args.tree.now) _ _ (plain_at c.in-Some.node) _ c.loop-node.invariant.stack last,
-        ),
-      ),
-    )
+    let old = old_whole c.args.graph.now c.args.u c.args.v (plain c.args.tree.now) before.0 c.vertices-vertices.ensures.graph before.1 before.2 in
+    (search rules, (c.requires.left, (adjacent before.0, plain c.args.tree.now, old, c.loop-path.invariant.way)))
 
-pub loop-node-preserved : goal.loop-node-preserved
-loop-node-preserved g c =
-    let last = plain_last c.loop-node.nodes.items c.pop.new.self.items c.in-Some.node c.in-Some.ensures.items in
+pub returns-in_err-next-clause-work : goal.returns-in_err-next-clause-work
+returns-in_err-next-clause-work g c = λ before w edited is least.
+    let few : c.take_turn.new.work ≤ c.args.work.now + names_between c.args.u c.args.v (plain c.args.tree.now) = (let p = c.take_turn.ensures.work in let q = c.loop-path.invariant.steps in omega arith) in
+    steps_few c.args.graph.now c.args.u c.args.v (plain c.args.tree.now) before w c.args.work.now c.take_turn.new.work few edited.before is least
+
+pub loop-path-preserved : goal.loop-path-preserved
+loop-path-preserved g c =
+    let own = own_steps c.args.u c.args.v in
+    let rest : c.take_turn.new.work + ahead own own c.take_turn.new.path.items c.in-Onward.next ≤ c.loop-path.work + ahead own own c.loop-path.path.items c.loop-path.current =
+    subst (λ (turn : Turn Below Grown). c.take_turn.new.work + still_ahead own own c.take_turn.new.path.items turn ≤ c.loop-path.work + ahead own own c.loop-path.path.items c.loop-path.current) c.in-Onward.is
+    c.in_ok-next.ensures.rest in
+    let begun = c.loop-path.invariant.steps in
     record {
-      stack = stack_more c.args.graph.now c.args.u c.args.v (plain c.args.tree.now) _ _ (plain_at c.in-Some.node) _ _ c.loop-node.invariant.stack last c.in_ok-take_turn.ensures.grown;
-      steps = steps_more c.args.graph.now c.args.u c.args.v (plain c.args.tree.now) _ _ (plain_at c.in-Some.node) c.args.work.now _ _ last c.loop-node.invariant.steps c.take_turn.ensures.work;
+      way =
+          subst (HasTurned (IsBelow c.args.graph.now c.args.u c.args.v) (IsGrownFrom c.args.graph.now c.args.u c.args.v) (plain c.args.tree.now) c.take_turn.new.path.items) c.in-Onward.is
+          (c.in_ok-next.ensures.turn (plain c.args.tree.now) c.loop-path.invariant.way);
+      steps = omega arith;
     }
-
-pub returns-in_err-take_turn-clause-work : goal.returns-in_err-take_turn-clause-work
-returns-in_err-take_turn-clause-work g c = λ before w edited is least.
-    let last = plain_last c.loop-node.nodes.items c.pop.new.self.items c.in-Some.node c.in-Some.ensures.items in
-    steps_few c.args.graph.now c.args.u c.args.v (plain c.args.tree.now) before w (sum_by (own_steps c.args.u c.args.v) (map plain_at c.pop.new.self.items)) c.args.work.now c.take_turn.new.work
-    (steps_more c.args.graph.now c.args.u c.args.v (plain c.args.tree.now) _ _ (plain_at c.in-Some.node) c.args.work.now _ _ last c.loop-node.invariant.steps c.take_turn.ensures.work)
-    edited.before is least
-
-pub unreachable-requires : goal.unreachable-requires
-unreachable-requires g c =
-    stack_some c.args.graph.now c.args.u c.args.v (plain c.args.tree.now) _ _ c.loop-node.invariant.stack
-    (ap (map plain_at) (nil_from_length c.loop-node.nodes.items (sym c.loop-node.nodes.ok.0 ∙ c.in_default.ensures.cases.0)))
-    (nil_from_length c.loop-node.stack.items (sym c.loop-node.stack.ok.0 ∙ c.in-None.ensures.cases.0))
 
 pub whole_tree-requires : goal.whole_tree-requires
 whole_tree-requires g c =
-    let old = c.requires.tree in
-    whole_grown c.args.graph.now c.args.u c.args.v (plain c.args.tree.now) old.0 _ _ c.pop-2.new.self.items c.in-Some-pop.grown old.1 old.2 c.requires.left c.requires.right c.loop-node.invariant.stack
-    (ap (map plain_at) (nil_from_length c.loop-node.nodes.items (sym c.loop-node.nodes.ok.0 ∙ c.in_default.ensures.cases.0))) c.in-Some-pop.ensures.items
+    let before = c.requires.tree in
+    let grown : IsGrownFrom c.args.graph.now c.args.u c.args.v (plain c.args.tree.now) c.in-End.grown =
+    subst (HasTurned (IsBelow c.args.graph.now c.args.u c.args.v) (IsGrownFrom c.args.graph.now c.args.u c.args.v) (plain c.args.tree.now) c.take_turn.new.path.items) c.in-End.is
+    (c.in_ok-next.ensures.turn (plain c.args.tree.now) c.loop-path.invariant.way) in
+    whole_grown c.args.graph.now c.args.u c.args.v (plain c.args.tree.now) before.0 c.in-End.grown before.1 before.2 c.requires.left c.requires.right grown
 
-pub returns-clause-tree : goal.returns-clause-tree
-returns-clause-tree g c =
-    let old = c.requires.tree in
-    tree_grown c.args.graph.now c.args.u c.args.v (plain c.args.tree.now) old.0 _ _ c.pop-2.new.self.items c.in-Some-pop.grown c.whole_tree.result c.vertices-vertices.ensures.graph old.1 old.2 c.loop-node.invariant.stack
-    (ap (map plain_at) (nil_from_length c.loop-node.nodes.items (sym c.loop-node.nodes.ok.0 ∙ c.in_default.ensures.cases.0))) c.in-Some-pop.ensures.items c.whole_tree.ensures
+pub returns-in-End-clause-tree : goal.returns-in-End-clause-tree
+returns-in-End-clause-tree g c =
+    let before = c.requires.tree in
+    let grown : IsGrownFrom c.args.graph.now c.args.u c.args.v (plain c.args.tree.now) c.in-End.grown =
+    subst (HasTurned (IsBelow c.args.graph.now c.args.u c.args.v) (IsGrownFrom c.args.graph.now c.args.u c.args.v) (plain c.args.tree.now) c.take_turn.new.path.items) c.in-End.is
+    (c.in_ok-next.ensures.turn (plain c.args.tree.now) c.loop-path.invariant.way) in
+    tree_grown c.args.graph.now c.args.u c.args.v (plain c.args.tree.now) before.0 c.in-End.grown c.whole_tree.result c.vertices-vertices.ensures.graph before.1 before.2 grown c.whole_tree.ensures
 
-pub returns-clause-work : goal.returns-clause-work
-returns-clause-work g c = λ before w edited is least.
-    steps_few c.args.graph.now c.args.u c.args.v (plain c.args.tree.now) before w (sum_by (own_steps c.args.u c.args.v) (map plain_at c.loop-node.nodes.items)) c.args.work.now c.loop-node.work
-    c.loop-node.invariant.steps edited.before is least
+pub returns-in-End-clause-work : goal.returns-in-End-clause-work
+returns-in-End-clause-work g c = λ before w edited is least.
+    let few : c.take_turn.new.work ≤ c.args.work.now + names_between c.args.u c.args.v (plain c.args.tree.now) = (let p = c.in_ok-next.ensures.work in let q = c.loop-path.invariant.steps in omega arith) in
+    steps_few c.args.graph.now c.args.u c.args.v (plain c.args.tree.now) before w c.args.work.now c.take_turn.new.work few edited.before is least

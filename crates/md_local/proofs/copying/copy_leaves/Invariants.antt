@@ -1,0 +1,13 @@
+use Rattle.std.proofs.Common.{◌≡◌, List, ◌++◌, length, map}
+use Rattle.md_tree.specs.Plain.{plain}
+use Rattle.md_tree.specs.Trees.{PlainTree}
+use Rattle.md_local.specs.Walks.{AreCopies}
+use Rattle.md_local.proofs.copying.copy_leaves.Given as goal
+
+abbrev pub invariant-loop-name : goal.invariant-loop-name
+invariant-loop-name l =
+    (ts : List PlainTree) × (map plain l.initial.rest ≡ ts ++ map plain l.rest) ×
+    ((us : List PlainTree) → AreCopies us l.initial.below → AreCopies (us ++ ts) l.below)
+
+abbrev pub decreases-loop-name : goal.decreases-loop-name
+decreases-loop-name l = length l.rest
