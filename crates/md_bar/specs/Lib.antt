@@ -1,3 +1,2 @@
 pub mod ClassLines
-pub mod ClassSteps
 pub mod Reading

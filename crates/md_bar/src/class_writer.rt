@@ -1,38 +1,27 @@
 //! The texts of lines.
 ghost use Rattle.std.specs.Prelude.{◌≡◌, ◌++◌, IfOk, OnOk};
-ghost use Rattle.md_report.specs.Lines.{line_text, head_class, barred, refused_bar, group_refused_bar, class_word, bar_word, bar_text};
-ghost use Rattle.md_bar.specs.ClassLines.{class_line_text, IsWellFormedClassLine};
+ghost use Rattle.md_report.specs.Lines.{line_text, barred, refused_bar, group_refused_bar, bar_word, bar_text};
+ghost use Rattle.md_bar.specs.ClassLines.{class_line_text};
 
-use crate::{Bar, BarKind, Class, ClassLine};
+use crate::{Bar, BarKind, ClassLine};
 use md_graph::Memory;
-use md_report::{push_edit, push_names, write_line};
+use md_report::{SessionMode, push_edit, push_names, write_line, write_session_head};
 use std::alloc::Global;
 
 // Room for so many bytes is taken at once: each line without a tree fits, and its line feed.
 const SHORT: usize = 64;
 
-/// The text of a line, without a line feed. Errors: want of memory. Condition: the line is
-/// well-formed.
+/// The text of a line, without a line feed. Errors: want of memory.
 pub fn write_class(alloc: Global, line: &ClassLine) -> Result<Vec<u8>, Memory>
-    requires { IsWellFormedClassLine line.now }
     ensures text { IfOk result (λ v. v.items ≡ class_line_text line.now) }
 {
     match line {
-        ClassLine::Head(class) => write_head(alloc, *class),
+        ClassLine::Head(class) => write_session_head(alloc, SessionMode::Of(*class)),
         ClassLine::Plain(plain) => write_line(alloc, plain),
         ClassLine::First(bar) => write_bar(alloc, bar),
         ClassLine::Refused(bar) => write_refusal(alloc, bar),
         ClassLine::GroupRefused(number, bar) => write_group_refusal(alloc, *number, bar),
     }
-}
-
-fn write_head(alloc: Global, class: Class) -> Result<Vec<u8>, Memory>
-    ensures { IfOk result (λ v. v.items ≡ line_text (head_class class)) }
-{
-    let mut text = Vec::with_capacity(alloc, SHORT)?;
-    text.extend_from_slice(b"mdt ")?;
-    text.extend_from_slice(class_word(class).as_bytes())?;
-    Ok(text)
 }
 
 fn write_bar(alloc: Global, bar: &Bar) -> Result<Vec<u8>, Memory>
@@ -68,16 +57,6 @@ fn push_bar(text: &mut Vec<u8>, bar: &Bar) -> Result<(), Memory>
 {
     text.extend_from_slice(bar_word(bar.kind).as_bytes())?;
     push_names(text, &[bar.a, bar.b, bar.c, bar.d])
-}
-
-// The word of a class.
-fn class_word(class: Class) -> &'static str
-    ensures { result.now ≡ class_word class }
-{
-    match class {
-        Class::Trivial => "trivial",
-        Class::Threshold => "threshold",
-    }
 }
 
 // The word of a kind of bars.

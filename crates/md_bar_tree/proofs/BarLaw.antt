@@ -1,17 +1,19 @@
 -- Where there is no induced path, there is no bar exactly where the nodes of the tree have few inner children.
-use Rattle.std.proofs.Common.{◌≡◌, ◌≢◌, ℕ, Bool, true, false, ◌⊎◌, List, Some, None, refl, sym, subst, inl, inr}
+use Rattle.std.proofs.Common.{◌≡◌, ◌≢◌, ℕ, Bool, true, false, ◌⊎◌, List, Option, Some, None, refl, sym, subst, inl, inr}
 use Rattle.std.specs.FinSet.{empty}
 use Rattle.md_graph.specs.Sets.{NameSet, Has}
 use Rattle.md_graph.specs.Adjacency.{IsAdjacency}
+use Rattle.md_graph.proofs.Search.{Decided}
 use Rattle.md_graph.proofs.SetLemmas.{clash, empty_lacks, Has-along, union_left, union_right}
 use Rattle.md_modules.specs.InducedPaths.{HasInducedPath}
+use Rattle.md_modules.proofs.DecidedPaths.{decide_path}
 use Rattle.md_tree.specs.declared.Kind.{Kind}
 use Rattle.md_tree.specs.declared.Kind.TheVariants.{Parallel, Series, Prime}
 use Rattle.md_tree.specs.declared.Pair.{Pair}
 use Rattle.md_tree.specs.Trees.{PlainTree, leaf, node, PlainTrees, no_tree, one_more, names, names_below, EachNodeBelow}
-use Rattle.md_tree.specs.StrongTrees.{IsTreeOf}
+use Rattle.md_tree.specs.StrongTrees.{IsTreeOf, IsTree}
 use Rattle.md_tree.specs.WellFormed.{NoneOfKind, IsCanonicalNode, IsCanonicalTree, HasNoPrimeNode, HaveNoPrimeNode}
-use Rattle.md_tree.proofs.OneTree.{canonical_proof, tells_proof, no_path_proof}
+use Rattle.md_tree.proofs.OneTree.{canonical_proof, tells_proof, no_path_proof, one_tree_proof}
 use Rattle.md_bar_tree.specs.declared.Class.{Class}
 use Rattle.md_bar_tree.specs.declared.Class.TheVariants.{Trivial, Threshold}
 use Rattle.md_bar_tree.specs.declared.BarKind.{BarKind}
@@ -185,3 +187,21 @@ no_bar_if_few_inner_proof e adj s (Some t) is no_path class =
       ]),
       λ few. no_bar_of_tree e adj s t is class free few,
     )
+
+-- whether a graph has a bar of a class is decided: by an induced path, or by its tree
+bar_by_tree : (class : Class) (e : ℕ → ℕ → Bool) → IsAdjacency e → (s : NameSet) (o : Option PlainTree) → IsTree e s o → ¬ (HasInducedPath e s) → Decided (HasBar class e s)
+bar_by_tree class e adj s None is no_path = inr (no_bar_of_none class e s is)
+bar_by_tree class e adj s (Some t) is no_path =
+    let free : HasNoPrimeNode t = (no_path_proof e adj s t is).0 no_path in
+    let c : (names t ≡ s) × IsCanonicalTree t = canonical_proof e adj s t is in
+    elim (bar_or_few adj class t c.1 free (tree_follows e adj s t is free)) [
+      | inl bar ↦ inl (subst (HasBar class e) c.0 bar)
+      | inr few ↦ inr (no_bar_of_tree e adj s t is class free few)
+    ]
+
+pub decide_bar : (class : Class) (e : ℕ → ℕ → Bool) → IsAdjacency e → (s : NameSet) → Decided (HasBar class e s)
+decide_bar class e adj s =
+    elim (decide_path adj s) [
+      | inl path ↦ inl (record { kind = P4; a = path.0; b = path.1; c = path.2; d = path.3 }, record { bars = tt; is = path.4 })
+      | inr no_path ↦ let o = one_tree_proof e adj s in bar_by_tree class e adj s o.0 o.1 no_path
+    ]

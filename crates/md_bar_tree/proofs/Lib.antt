@@ -3,6 +3,6 @@ mod TwoPairs
 mod NoPairs
 mod Leasts
 mod Witnesses
-mod BarLaw
+pub mod BarLaw
 mod Children
 mod Tested

@@ -4,11 +4,12 @@ use Rattle.md_graph.specs.PlainGraph.{PlainGraph}
 use Rattle.md_modules.specs.declared.induced_paths.P4.{P4}
 use Rattle.md_bar_tree.specs.declared.Class.{Class}
 use Rattle.md_script.specs.declared.edit.Edit.{Edit}
-use Rattle.md_script.specs.Pasts.{taken_back, MayBack}
+use Rattle.md_script.specs.Pasts.{taken_back}
 use Rattle.md_script.specs.Histories.{HistoryFits}
+use Rattle.md_script.proofs.GroupLemmas.{back_weaker}
 use Rattle.md_report.specs.Lines.{path_bar}
 use Rattle.md_report.specs.Cographs.{IsP4Of, IsCograph}
-use Rattle.md_bar.specs.ClassSteps.{IsAllowedIn, IsBarOf}
+use Rattle.md_report.specs.Classes.{IsAllowedIn, IsBarOf}
 
 -- ---- induced P4s
 
@@ -20,14 +21,6 @@ allowed_cograph class g free path =
     let p : P4 = record { a = path.0; b = path.1; c = path.2; d = path.3 } in free (path_bar p, path_bars class g p path.4)
 
 -- ---- what may be taken back
-
-pub back_weaker : (limit : ℕ) (Kept Other : PlainGraph → Type 0) → ((k : PlainGraph) → Kept k → Other k) → (g : PlainGraph) (edits : List Edit) → MayBack limit Kept g edits → MayBack limit Other g edits
-back_weaker limit Kept Other weaker g [] may = tt
-back_weaker limit Kept Other weaker g (edit ∷ edits) may = (back_weaker limit Kept Other weaker g edits may.0, (may.1.0, (may.1.1.0, weaker _ may.1.1.1)))
-
-pub back_kept : (limit : ℕ) (Kept : PlainGraph → Type 0) (g : PlainGraph) (edits : List Edit) → Kept g → MayBack limit Kept g edits → Kept (taken_back g edits)
-back_kept limit Kept g [] kept may = kept
-back_kept limit Kept g (edit ∷ edits) kept may = may.1.1.1
 
 pub fits_cographs : (limit : ℕ) (class : Class) (g : PlainGraph) (items : List (List Edit)) → HistoryFits limit (IsAllowedIn class) g items → HistoryFits limit IsCograph g items
 fits_cographs limit class g [] fits = tt

@@ -19,63 +19,57 @@ use Rattle.md_script.specs.Edit.{HasNamesBelow, reason_of, after}
 use Rattle.md_script.specs.Pasts.{inverse_of, MayBack, HasApplied}
 use Rattle.md_script.specs.Histories.{HistoryFits}
 use Rattle.md_script.proofs.BackLemmas.{inverse_back}
-use Rattle.md_script.proofs.GroupLemmas.{GoesBack, kept_goes_back, one_goes_back}
+use Rattle.md_script.proofs.GroupLemmas.{GoesBack, back_weaker, kept_goes_back, one_goes_back}
 use Rattle.md_report.specs.Cographs.{IsCograph}
 use Rattle.md_report.specs.Lines.{PlainLine, applied, refused, refused_bar, group_refused, group_refused_bar}
 use Rattle.md_report.specs.Sessions.{HasTreeLine, led_to, is_applied}
-use Rattle.md_report.specs.ItemLines.{AnswersEditBy, IsGroupLineBy}
 use Rattle.md_report.specs.Steps.{state_of}
-use Rattle.md_report.proofs.Groups.{drop_read, past_applied, whole_line_by}
-use Rattle.md_report.proofs.Stepping.{refused_step_by, led_step_by, all_graph}
-use Rattle.md_bar.specs.ClassSteps.{IsAllowedIn, IsBarOf, IsClassLineAt, AnswersClassItem, ClassStep}
+use Rattle.md_report.proofs.Groups.{drop_read, past_applied, whole_line}
+use Rattle.md_report.proofs.Stepping.{refused_step, led_step, all_graph}
+use Rattle.md_report.specs.Classes.{IsAllowedIn, IsBarOf, IsClassLineBy}
+use Rattle.md_report.specs.Steps.{ItemStep}
+use Rattle.md_report.specs.ItemLines.{IsLineAt, IsGroupLine}
+use Rattle.md_report.specs.declared.line.SessionMode.TheVariants.{Of}
 use Rattle.md_class.specs.declared.items.Answer.TheVariants.{Applied, Refused, Barred}
 use Rattle.md_class.specs.ClassAnswers.{AreKept, IsAnswered}
 use Rattle.md_cograph.proofs.GoingBack.{same_rest}
-use Rattle.md_class.proofs.ClassGraphs.{allowed_cograph, back_weaker}
-
--- the line of an edit, by the reason against it
-abbrev IsEditLine : Class → Option EditReason → PlainGraph → PlainLine → Type 0
-IsEditLine class = AnswersEditBy (IsAllowedIn class) (IsBarOf class) (HasTreeLine applied)
+use Rattle.md_class.proofs.ClassGraphs.{allowed_cograph}
 
 -- a line at which a group ends is its line, whatever stands behind, and refuses it
-end_line : (class : Class) (o : Option EditReason) (n : ℕ) (h : PlainGraph) (Behind : Type 0) (line : PlainLine) → IsClassLineAt class o n h ⊥ line → IsClassLineAt class o n h Behind line × (is_applied line ≡ false)
+end_line : (class : Class) (o : Option EditReason) (n : ℕ) (h : PlainGraph) (Behind : Type 0) (line : PlainLine) → IsLineAt o (Of class) n h ⊥ line → IsLineAt o (Of class) n h Behind line × (is_applied line ≡ false)
 end_line class (Some reason) n h Behind line is = (is, ap is_applied is)
 end_line class None n h Behind line (inl told) = (inl told, ap is_applied told.2)
 end_line class None n h Behind line (inr rest) = absurd rest.1
-
--- no graph of the class has a bar of it
-pub apart : (class : Class) (g : PlainGraph) (bar : Bar) → IsBarOf class g bar → IsAllowedIn class g → ⊥
-apart class g bar is allowed = allowed (bar, is)
 
 module _ (limit : ℕ) (class : Class) (g : PlainGraph) (items : List (List Edit)) (fits : HistoryFits limit (IsAllowedIn class) g items) where
   -- ---- an edit alone
 
   module _ (edit : Edit) (next : PlainGraph) where
     -- it is refused with this line
-    refused_one : (line : PlainLine) (opened left dropped : List (List Edit)) → is_applied line ≡ false → IsEditLine class (reason_of g edit) (after g edit) line → AreKept g opened next left → opened ≡ [] ∷ items → left ≡ [] ∷ dropped
-        → ClassStep limit class g items (One edit) line next dropped
+    refused_one : (line : PlainLine) (opened left dropped : List (List Edit)) → is_applied line ≡ false → IsClassLineBy (reason_of g edit) class (after g edit) line → AreKept g opened next left → opened ≡ [] ∷ items → left ≡ [] ∷ dropped
+        → ItemStep limit (Of class) g items (One edit) line next dropped
     refused_one line opened left dropped refuses told kept made last =
-        refused_step_by limit (IsAllowedIn class) (AnswersClassItem class) g items (One edit) line next dropped told refuses kept.0
+        refused_step limit (Of class) g items (One edit) line next dropped told refuses kept.0
         (same_rest _ items (sym last ∙ (kept.1 ∙ made))) fits
 
     pub reason_one : (reason : EditReason) (opened left dropped : List (List Edit)) → IsAnswered class g edit opened (Ok (Refused reason)) next left → opened ≡ [] ∷ items → left ≡ [] ∷ dropped
-        → ClassStep limit class g items (One edit) (refused reason) next dropped
+        → ItemStep limit (Of class) g items (One edit) (refused reason) next dropped
     reason_one reason opened left dropped told =
-        refused_one (refused reason) opened left dropped refl (subst (λ o. IsEditLine class o (after g edit) (refused reason)) (sym told.0) refl) told.1
+        refused_one (refused reason) opened left dropped refl (subst (λ o. IsClassLineBy o class (after g edit) (refused reason)) (sym told.0) refl) told.1
 
     pub barred_one : (bar : Bar) (opened left dropped : List (List Edit)) → IsAnswered class g edit opened (Ok (Barred bar)) next left → opened ≡ [] ∷ items → left ≡ [] ∷ dropped
-        → ClassStep limit class g items (One edit) (refused_bar bar) next dropped
+        → ItemStep limit (Of class) g items (One edit) (refused_bar bar) next dropped
     barred_one bar opened left dropped told =
-        refused_one (refused_bar bar) opened left dropped refl (subst (λ o. IsEditLine class o (after g edit) (refused_bar bar)) (sym told.0) (inl (bar, told.1, refl))) told.2
+        refused_one (refused_bar bar) opened left dropped refl (subst (λ o. IsClassLineBy o class (after g edit) (refused_bar bar)) (sym told.0) (inl (bar, told.1, refl))) told.2
 
   -- ---- what is applied
 
   module _ (few : limit ≤ NAMES) (is : IsGraph g) (below : AllBelow g.vertices limit) (allowed : IsAllowedIn class g) where
     pub applied_one : (edit : Edit) (next : PlainGraph) (t : Option (TreeOf Kind Pair)) (opened left : List (List Edit)) → HasNamesBelow limit edit → IsAnswered class g edit opened (Ok (Applied t)) next left → opened ≡ [] ∷ items
-        → ClassStep limit class g items (One edit) (applied (plain_option t)) next left
+        → ItemStep limit (Of class) g items (One edit) (applied (plain_option t)) next left
     applied_one edit next t opened left names told made =
-        led_step_by limit (IsAllowedIn class) (AnswersClassItem class) g items (One edit) (applied (plain_option t)) next left (inverse_of g edit ∷ [])
-        (subst (λ o. IsEditLine class o (after g edit) (applied (plain_option t))) (sym told.0) (inr (
+        led_step limit (Of class) g items (One edit) (applied (plain_option t)) next left (inverse_of g edit ∷ [])
+        (subst (λ o. IsClassLineBy o class (after g edit) (applied (plain_option t))) (sym told.0) (inr (
           subst (IsAllowedIn class) told.1 told.2.0,
           (plain_option t, subst (λ (k : PlainGraph). IsTree (adjacent k) k.vertices (plain_option t)) told.1 told.2.1, refl),
         )))
@@ -92,29 +86,29 @@ module _ (limit : ℕ) (class : Class) (g : PlainGraph) (items : List (List Edit
       pub may_back : MayBack limit IsCograph h back
       may_back = back_weaker limit (IsAllowedIn class) IsCograph (allowed_cograph class) h back goes.may
 
-      pub whole_group : n ≡ length edits → (t : Option PlainTree) → IsTree (adjacent h) h.vertices t → (left : List (List Edit)) → left ≡ back ∷ items → ClassStep limit class g items (Group edits) (applied t) h left
+      pub whole_group : n ≡ length edits → (t : Option PlainTree) → IsTree (adjacent h) h.vertices t → (left : List (List Edit)) → left ≡ back ∷ items → ItemStep limit (Of class) g items (Group edits) (applied t) h left
       whole_group all t tree left is_left =
-          led_step_by limit (IsAllowedIn class) (AnswersClassItem class) g items (Group edits) (applied t) h left back
-          ((whole_line_by (IsAllowedIn class) (IsBarOf class) (HasTreeLine applied) (apart class) g h edits back n (applied t) so all).1 (t, tree, refl))
+          led_step limit (Of class) g items (Group edits) (applied t) h left back
+          ((whole_line (Of class) g h edits back n (applied t) so all).1 (t, tree, refl))
           refl (ap (led_to (state_of g items)) (sym (all_graph (IsAllowedIn class) g h edits back (subst (HasApplied (IsAllowedIn class) g edits h back) all so))))
           goes is_left fits
 
-      pub ended_group : (edit : Edit) (line : PlainLine) → slice_get edits n ≡ Some edit → IsClassLineAt class (reason_of h edit) (n + 1) (after h edit) ⊥ line → (next : PlainGraph) (left : List (List Edit)) → next ≡ g → left ≡ items
-          → ClassStep limit class g items (Group edits) line next left
+      pub ended_group : (edit : Edit) (line : PlainLine) → slice_get edits n ≡ Some edit → IsLineAt (reason_of h edit) (Of class) (n + 1) (after h edit) ⊥ line → (next : PlainGraph) (left : List (List Edit)) → next ≡ g → left ≡ items
+          → ItemStep limit (Of class) g items (Group edits) line next left
       ended_group edit line at told next left same kept =
-          let ends = end_line class (reason_of h edit) (n + 1) (after h edit) (IsGroupLineBy (IsAllowedIn class) (IsBarOf class) (HasTreeLine applied) (n + 1) (after h edit) (drop (n + 1) edits) line) line told in
-          let whole = (past_applied (IsAllowedIn class) (IsBarOf class) (HasTreeLine applied) (apart class) g h edits back n line so).1
-          (subst (λ l. IsGroupLineBy (IsAllowedIn class) (IsBarOf class) (HasTreeLine applied) n h l line) (sym (drop_read edits n edit at)) ends.0) in
-          refused_step_by limit (IsAllowedIn class) (AnswersClassItem class) g items (Group edits) line next left whole ends.1 same kept fits
+          let ends = end_line class (reason_of h edit) (n + 1) (after h edit) (IsGroupLine (Of class) (n + 1) (after h edit) (drop (n + 1) edits) line) line told in
+          let whole = (past_applied (Of class) g h edits back n line so).1
+          (subst (λ l. IsGroupLine (Of class) n h l line) (sym (drop_read edits n edit at)) ends.0) in
+          refused_step limit (Of class) g items (Group edits) line next left whole ends.1 same kept fits
 
 -- ---- the line at which a group ends
 
 module _ (class : Class) (h next : PlainGraph) (edit : Edit) (n : ℕ) (same : next ≡ h) where
-  pub reason_ends : (reason : EditReason) → reason_of h edit ≡ Some reason → IsClassLineAt class (reason_of next edit) (n + 1) (after next edit) ⊥ (group_refused (n + 1) reason)
+  pub reason_ends : (reason : EditReason) → reason_of h edit ≡ Some reason → IsLineAt (reason_of next edit) (Of class) (n + 1) (after next edit) ⊥ (group_refused (n + 1) reason)
   reason_ends reason against =
-      subst (λ o. IsClassLineAt class o (n + 1) (after next edit) ⊥ (group_refused (n + 1) reason)) (sym (ap (λ (k : PlainGraph). reason_of k edit) same ∙ against)) refl
+      subst (λ o. IsLineAt o (Of class) (n + 1) (after next edit) ⊥ (group_refused (n + 1) reason)) (sym (ap (λ (k : PlainGraph). reason_of k edit) same ∙ against)) refl
 
-  pub bar_ends : (bar : Bar) → reason_of h edit ≡ None → IsBarOf class (after h edit) bar → IsClassLineAt class (reason_of next edit) (n + 1) (after next edit) ⊥ (group_refused_bar (n + 1) bar)
+  pub bar_ends : (bar : Bar) → reason_of h edit ≡ None → IsBarOf class (after h edit) bar → IsLineAt (reason_of next edit) (Of class) (n + 1) (after next edit) ⊥ (group_refused_bar (n + 1) bar)
   bar_ends bar none is =
-      subst (λ o. IsClassLineAt class o (n + 1) (after next edit) ⊥ (group_refused_bar (n + 1) bar)) (sym (ap (λ (k : PlainGraph). reason_of k edit) same ∙ none))
+      subst (λ o. IsLineAt o (Of class) (n + 1) (after next edit) ⊥ (group_refused_bar (n + 1) bar)) (sym (ap (λ (k : PlainGraph). reason_of k edit) same ∙ none))
       (inl (bar, subst (λ (k : PlainGraph). IsBarOf class (after k edit) bar) (sym same) is, refl))

@@ -13,7 +13,9 @@ use Rattle.md_script.specs.Edit.{reason_of, after}
 use Rattle.md_script.specs.Pasts.{inverse_of}
 use Rattle.md_bar.specs.declared.ClassLine.{ClassLine}
 use Rattle.md_bar.specs.ClassLines.{plain_class_line}
-use Rattle.md_bar.specs.ClassSteps.{IsAllowedIn, IsBarOf, IsClassLineAt}
+use Rattle.md_report.specs.Classes.{IsAllowedIn, IsBarOf}
+use Rattle.md_report.specs.ItemLines.{IsLineAt}
+use Rattle.md_report.specs.declared.line.SessionMode.TheVariants.{Of}
 use Rattle.md_class.specs.declared.items.Answer.{Answer}
 use Rattle.md_class.specs.declared.items.Answer.TheVariants.{Applied, Refused, Barred}
 use Rattle.md_class.specs.declared.items.Fit.{Fit}
@@ -48,5 +50,5 @@ IsAnswered class g edit items (Err wanted) next left = AreKept g items next left
 abbrev pub IsGroupEnd : Class → List Edit → PlainGraph → ℕ → Result (Option ClassLine) Memory → Type 0
 IsGroupEnd class edits h n (Ok None) = n ≡ length edits
 IsGroupEnd class edits h n (Ok (Some line)) =
-    (edit : Edit) × (slice_get edits n ≡ Some edit) × IsClassLineAt class (reason_of h edit) (n + 1) (after h edit) ⊥ (plain_class_line line)
+    (edit : Edit) × (slice_get edits n ≡ Some edit) × IsLineAt (reason_of h edit) (Of class) (n + 1) (after h edit) ⊥ (plain_class_line line)
 IsGroupEnd class edits h n (Err wanted) = ⊤

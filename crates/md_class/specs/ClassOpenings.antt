@@ -4,7 +4,7 @@
 use Rattle.std.specs.Prelude.{◌≡◌, ℕ}
 use Rattle.md_graph.specs.PlainGraph.{PlainGraph}
 use Rattle.md_bar_tree.specs.declared.Class.{Class}
-use Rattle.md_bar.specs.ClassSteps.{IsAllowedIn, IsBarOf}
+use Rattle.md_report.specs.Classes.{IsAllowedIn, IsBarOf}
 use Rattle.md_class.specs.declared.session.ClassOpenedOf as opened
 use Rattle.md_class.specs.declared.session.ClassOpenedOf.TheVariants.{Session, Barred}
 

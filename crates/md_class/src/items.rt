@@ -10,7 +10,9 @@ ghost use Rattle.md_script.specs.Pasts.{HasApplied};
 ghost use Rattle.md_script.specs.Histories.{HistoryFits};
 ghost use Rattle.md_report.specs.Lines.{path_bar};
 ghost use Rattle.md_bar.specs.ClassLines.{plain_class_line};
-ghost use Rattle.md_bar.specs.ClassSteps.{IsAllowedIn, ClassStep};
+ghost use Rattle.md_report.specs.Classes.{IsAllowedIn};
+ghost use Rattle.md_report.specs.Steps.{ItemStep};
+ghost use Rattle.md_report.specs.declared.line.SessionMode.TheVariants.{Of};
 ghost use Rattle.md_class.specs.ClassAnswers.{IsFitOf, IsAnswered, IsGroupEnd};
 
 use md_bar::{Bar, BarKind, Class, ClassLine, bar_of};
@@ -74,7 +76,7 @@ pub(crate) fn answer_one<const W: usize, L: Ledger>(
     requires near { 64 * W ≤ vec_capacity near.old }
     requires room { 2 ≤ history.old.spare }
     requires fits { HistoryFits (64 * W) (IsAllowedIn class) graph.old history.old.items }
-    ensures step { IfOk result (λ line. ClassStep (64 * W) class graph.old history.old.items
+    ensures step { IfOk result (λ line. ItemStep (64 * W) (Of class) graph.old history.old.items
         (One edit.now) (plain_class_line line) graph.new history.new.items) }
     ensures allowed { IsAllowedIn class graph.new }
     ensures denotes { Denotes tree.new graph.new }
@@ -120,7 +122,7 @@ pub(crate) fn answer_group<const W: usize, L: Ledger>(
     requires near { 64 * W ≤ vec_capacity near.old }
     requires room { length edits.now + 1 ≤ history.old.spare }
     requires fits { HistoryFits (64 * W) (IsAllowedIn class) graph.old history.old.items }
-    ensures step { IfOk result (λ line. ClassStep (64 * W) class graph.old history.old.items
+    ensures step { IfOk result (λ line. ItemStep (64 * W) (Of class) graph.old history.old.items
         (Group edits.now) (plain_class_line line) graph.new history.new.items) }
     ensures allowed { IsAllowedIn class graph.new }
     ensures denotes { Denotes tree.new graph.new }

@@ -7,7 +7,9 @@ ghost use Rattle.md_tree.specs.StrongTrees.{IsTree};
 ghost use Rattle.md_script.specs.Histories.{HistoryFits};
 ghost use Rattle.md_script.specs.Items.{HasItemNamesBelow, room_for};
 ghost use Rattle.md_bar.specs.ClassLines.{plain_class_line};
-ghost use Rattle.md_bar.specs.ClassSteps.{IsAllowedIn, ClassStep};
+ghost use Rattle.md_report.specs.Classes.{IsAllowedIn};
+ghost use Rattle.md_report.specs.Steps.{ItemStep};
+ghost use Rattle.md_report.specs.declared.line.SessionMode.TheVariants.{Of};
 ghost use Rattle.md_class.specs.ClassOpenings.{IsClassOpened};
 
 use crate::items::{answer_group, answer_one, path_bar};
@@ -46,7 +48,7 @@ impl<const W: usize> Model for ClassSessionOf<W> {
 
     ghost view = { λ s. record { graph = s.graph; class = s.class } };
 
-    ghost use Rattle.md_bar.specs.ClassSteps.{IsAllowedIn};
+    ghost use Rattle.md_report.specs.Classes.{IsAllowedIn};
     ghost use Rattle.md_cotree.specs.Cotrees.{Denotes};
     ghost use Rattle.std.specs.Prelude.{◌*◌, ◌≤◌, vec_capacity};
 
@@ -116,7 +118,7 @@ impl<const W: usize> ClassSessionOf<W> {
         requires room { room_for item.now ≤ history.old.spare }
         requires fits { HistoryFits (64 * W) (IsAllowedIn self.old.class) self.old.graph
             history.old.items }
-        ensures step { IfOk result (λ line. ClassStep (64 * W) self.old.class self.old.graph
+        ensures step { IfOk result (λ line. ItemStep (64 * W) (Of self.old.class) self.old.graph
             history.old.items item.now (plain_class_line line) self.new.graph history.new.items) }
         ensures class { self.new.class ≡ self.old.class }
         ensures stays { IsErr result → self.new ≡ self.old }
@@ -152,7 +154,7 @@ impl ClassSession {
         requires room { room_for item.now ≤ history.old.spare }
         requires fits { HistoryFits (64 * WORDS) (IsAllowedIn self.old.class) self.old.graph
             history.old.items }
-        ensures step { IfOk result (λ line. ClassStep (64 * WORDS) self.old.class self.old.graph
+        ensures step { IfOk result (λ line. ItemStep (64 * WORDS) (Of self.old.class) self.old.graph
             history.old.items item.now (plain_class_line line) self.new.graph history.new.items) }
         ensures class { self.new.class ≡ self.old.class }
         ensures stays { IsErr result → self.new ≡ self.old }
@@ -178,7 +180,7 @@ fn answer_item<L: Ledger>(
     requires room { room_for item.now ≤ history.old.spare }
     requires fits { HistoryFits (64 * WORDS) (IsAllowedIn session.old.class) session.old.graph
         history.old.items }
-    ensures step { IfOk result (λ line. ClassStep (64 * WORDS) session.old.class session.old.graph
+    ensures step { IfOk result (λ line. ItemStep (64 * WORDS) (Of session.old.class) session.old.graph
         history.old.items item.now (plain_class_line line) session.new.graph history.new.items) }
     ensures class { session.new.class ≡ session.old.class }
     ensures stays { IsErr result → session.new ≡ session.old }

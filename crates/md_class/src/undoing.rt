@@ -11,7 +11,9 @@ ghost use Rattle.md_script.specs.Pasts.{taken_back, MayBack};
 ghost use Rattle.md_script.specs.Histories.{HistoryFits};
 ghost use Rattle.md_report.specs.Cographs.{IsCograph};
 ghost use Rattle.md_bar.specs.ClassLines.{plain_class_line};
-ghost use Rattle.md_bar.specs.ClassSteps.{IsAllowedIn, ClassStep};
+ghost use Rattle.md_report.specs.Classes.{IsAllowedIn};
+ghost use Rattle.md_report.specs.Steps.{ItemStep};
+ghost use Rattle.md_report.specs.declared.line.SessionMode.TheVariants.{Of};
 
 use md_bar::ClassLine;
 use md_cograph::{change_back, take_back_item};
@@ -39,7 +41,7 @@ pub(crate) fn answer_undo<const W: usize, L: Ledger>(
     requires fits { HistoryFits (64 * W) IsCograph graph.old history.old.items }
     ensures step { IfOk result (λ line. (class : bars.Class) →
         HistoryFits (64 * W) (IsAllowedIn class) graph.old history.old.items →
-        ClassStep (64 * W) class graph.old history.old.items Undo (plain_class_line line) graph.new
+        ItemStep (64 * W) (Of class) graph.old history.old.items Undo (plain_class_line line) graph.new
         history.new.items) }
     ensures allowed { (class : bars.Class) → IsAllowedIn class graph.old →
         HistoryFits (64 * W) (IsAllowedIn class) graph.old history.old.items →

@@ -6,9 +6,12 @@ use Rattle.md_graph.specs.declared.TheConstants.{NAMES}
 use Rattle.md_graph.specs.PlainGraph.{PlainGraph, IsGraph, adjacent}
 use Rattle.md_graph.proofs.GraphLemmas.{adjacent_sym, adjacent_self}
 use Rattle.md_modules.proofs.DecidedPaths.{decide_path}
+use Rattle.md_modules.proofs.Turns.{graph_adjacency}
 use Rattle.md_modules.specs.declared.induced_paths.P4.{P4}
 use Rattle.md_bar_tree.specs.declared.BarKind.TheVariants as kinds
 use Rattle.md_bar_tree.specs.declared.Bar.{Bar}
+use Rattle.md_bar_tree.specs.declared.Class.{Class}
+use Rattle.md_bar_tree.proofs.BarLaw.{decide_bar}
 use Rattle.md_tree.specs.Trees.{PlainTree}
 use Rattle.md_tree.specs.StrongTrees.{IsTree}
 use Rattle.md_tree.proofs.OneTree.{one_tree_proof}
@@ -21,11 +24,12 @@ use Rattle.md_script.specs.Items.{HasItemNamesBelow}
 use Rattle.md_script.specs.Pasts.{all_after, Applies}
 use Rattle.md_script.proofs.ChangeLemmas.{after_is_graph}
 use Rattle.md_report.specs.declared.line.SessionMode.{SessionMode}
-use Rattle.md_report.specs.declared.line.SessionMode.TheVariants.{Edit, Cograph, Quiet}
+use Rattle.md_report.specs.declared.line.SessionMode.TheVariants.{Edit, Cograph, Quiet, Of}
 use Rattle.md_report.specs.Lines.{PlainLine, path_bar, path_of_bar, applied, applied_quiet, refused, refused_bar, group_refused, group_refused_bar, nothing_to_undo}
 use Rattle.md_report.specs.Sessions.{State, undone, applied_state, is_applied, state_behind, HasTreeLine, IsLineBy}
 use Rattle.md_report.specs.Cographs.{IsP4Of, IsPathOf, IsCograph, HasP4Line, IsCographLineBy, IsQuietLineBy}
-use Rattle.md_report.specs.ItemLines.{IsAllowed, IsBarred, IsDoneLine, AnswersEdit, AnswersEditBy, IsLineAt, IsGroupLine, IsUndoLine, AnswersItem}
+use Rattle.md_report.specs.Classes.{IsAllowedIn, IsBarOf, IsClassLineBy}
+use Rattle.md_report.specs.ItemLines.{IsAllowed, IsBarred, IsDoneLine, AnswersEdit, IsLineAt, IsGroupLine, IsUndoLine, AnswersItem}
 use Rattle.md_report.specs.Places.{tells_bar}
 use Rattle.md_report.specs.Laws.{AreGraphs, KeepsCographs}
 
@@ -43,7 +47,8 @@ path_told made g line =
 
 -- the line of an edit of a mode, by the reason against it and the graph h after it
 abbrev pub IsEditLine : Option EditReason → SessionMode → PlainGraph → PlainLine → Type 0
-IsEditLine o mode = AnswersEditBy (IsAllowed mode) (IsBarred mode) (IsDoneLine mode) o
+IsEditLine (Some reason) mode h line = line ≡ refused reason
+IsEditLine None mode h line = ((bar : Bar) × IsBarred mode h bar × (line ≡ refused_bar bar)) ⊎ (IsAllowed mode h × IsDoneLine mode h line)
 
 -- the same of an edit at a session on cographs that gives h
 path_or_done : (h : PlainGraph) (line : PlainLine) (Done : Type 0) → (HasP4Line (λ p. refused_bar (path_bar p)) h line ⊎ Done) ↔ (((bar : Bar) × IsPathOf h bar × (line ≡ refused_bar bar)) ⊎ Done)
@@ -64,6 +69,10 @@ edit_line Quiet g edit line = by_reason (reason_of g edit) where
   by_reason : (o : Option EditReason) → IsQuietLineBy o g edit line ↔ IsEditLine o Quiet (after g edit) line
   by_reason (Some reason) = (λ is. is, λ is. is)
   by_reason None = path_or_done (after g edit) line (IsCograph (after g edit) × IsDoneLine Quiet (after g edit) line)
+edit_line (Of class) g edit line = by_reason (reason_of g edit) where
+  by_reason : (o : Option EditReason) → IsClassLineBy o class (after g edit) line ↔ IsEditLine o (Of class) (after g edit) line
+  by_reason (Some reason) = (λ is. is, λ is. is)
+  by_reason None = (λ is. is, λ is. is)
 
 -- ---- what a line tells
 
@@ -82,6 +91,7 @@ pub done_tells : (mode : SessionMode) (g : PlainGraph) (line : PlainLine) → Is
 done_tells Edit g line done = (ap is_applied done.2, ap tells_bar done.2)
 done_tells Cograph g line done = (ap is_applied done.2, ap tells_bar done.2)
 done_tells Quiet g line done = (ap is_applied done, ap tells_bar done)
+done_tells (Of class) g line done = (ap is_applied done.2, ap tells_bar done.2)
 
 refused_tells : (mode : SessionMode) (g : PlainGraph) (edits : List script.Edit) (h : PlainGraph) (line known : PlainLine) → line ≡ known → tells_bar known ≡ false → is_applied known ≡ false → Tells mode g edits h line
 refused_tells mode g edits h line known is plain none = record { plain = ap tells_bar is ∙ plain; outcome = inl (ap is_applied is ∙ none) }
@@ -187,15 +197,21 @@ some_p4 g is =
 path_or_cograph : (g : PlainGraph) → IsGraph g → ((bar : Bar) × IsPathOf g bar) ⊎ IsCograph g
 path_or_cograph g is = elim (some_p4 g is) [ inl path ↦ inl (path_bar path.0, (refl, path.1)) | inr none ↦ inr none ]
 
+-- a graph has a bar of a class, or none
+pub some_bar : (class : Class) (g : PlainGraph) → IsGraph g → ((bar : Bar) × IsBarOf class g bar) ⊎ IsAllowedIn class g
+some_bar class g is = decide_bar class (adjacent g) (graph_adjacency is) g.vertices
+
 barred_or_allowed : (mode : SessionMode) (g : PlainGraph) → IsGraph g → ((bar : Bar) × IsBarred mode g bar) ⊎ IsAllowed mode g
 barred_or_allowed Edit g is = inr tt
 barred_or_allowed Cograph g is = path_or_cograph g is
 barred_or_allowed Quiet g is = path_or_cograph g is
+barred_or_allowed (Of class) g is = some_bar class g is
 
 done_line : (mode : SessionMode) (g : PlainGraph) → IsGraph g → (line : PlainLine) × IsDoneLine mode g line
 done_line Edit g is = tree_line applied g is
 done_line Cograph g is = tree_line applied g is
 done_line Quiet g is = (applied_quiet, refl)
+done_line (Of class) g is = tree_line applied g is
 
 some_edit_line : (mode : SessionMode) (g : PlainGraph) (edit : script.Edit) → IsGraph g → HasNames edit → (line : PlainLine) × AnswersEdit mode g edit line
 some_edit_line mode g edit is names =
@@ -241,11 +257,13 @@ path_in : (mode : SessionMode) → KeepsCographs mode → (g : PlainGraph) (bar 
 path_in Edit kept g bar path = absurd kept
 path_in Cograph kept g bar path = path
 path_in Quiet kept g bar path = path
+path_in (Of class) kept g bar path = absurd kept
 
 none_in : (mode : SessionMode) → KeepsCographs mode → (g : PlainGraph) → IsAllowed mode g → IsCograph g
 none_in Edit kept g none = absurd kept
 none_in Cograph kept g none = none
 none_in Quiet kept g none = none
+none_in (Of class) kept g none = absurd kept
 
 module _ (mode other : SessionMode) (kept : KeepsCographs mode) (also : KeepsCographs other) (line second : PlainLine) where
   -- both tell that the item was applied, or neither does

@@ -13,23 +13,25 @@ use Rattle.md_comparability.proofs.OneList.{one_list_proof}
 use Rattle.md_comparability.proofs.Shortest.{shortest_proof}
 use Rattle.md_comparability.specs.Chains.{IsShortestChain}
 use Rattle.md_comparability.proofs.OrderLaws.{orders_proof}
+use Rattle.md_bar_tree.specs.declared.Class.{Class}
 use Rattle.md_script.specs.declared.item.Item.{Item}
 use Rattle.md_script.specs.Items.{IsScriptItem}
 use Rattle.md_report.specs.declared.line.GraphMode.{GraphMode}
 use Rattle.md_report.specs.declared.line.GraphMode.TheVariants.{Tree, Compare, Shortest, Permute}
 use Rattle.md_report.specs.declared.line.SessionMode.{SessionMode}
-use Rattle.md_report.specs.declared.line.SessionMode.TheVariants.{Edit, Cograph, Quiet}
-use Rattle.md_report.specs.Lines.{PlainLine, mode_of, session_mode_of, head, tree, not_cograph, oriented, forced, orders, forced_in, forced_in_complement, end}
+use Rattle.md_report.specs.declared.line.SessionMode.TheVariants.{Edit, Cograph, Quiet, Of}
+use Rattle.md_report.specs.Lines.{PlainLine, mode_of, session_head, head, tree, barred, not_cograph, oriented, forced, orders, forced_in, forced_in_complement, end}
 use Rattle.md_report.specs.Orientations.{IsOrientationLine, IsShortestLine}
 use Rattle.md_report.specs.Models.{IsModelLine}
 use Rattle.md_report.specs.Sessions.{State, first_state, HasTreeLine, state_behind, last_state}
 use Rattle.md_report.specs.Cographs.{IsCograph, HasP4Line, IsOpeningLine}
+use Rattle.md_report.specs.Classes.{IsClassOpening}
 use Rattle.md_report.specs.ItemLines.{AnswersItem, Run}
 use Rattle.md_report.specs.Places.{Place, before_head, at_graphs, before_session, at_state, at_items, at_end, after_end, Reports, ReportsState, ComesAtItems, place_behind, tells_bar, items_behind, quiet_place, MayCome, next_place, Lead}
 use Rattle.md_report.specs.Laws.{AreGraphs, IsSound, LinesLeadIfFirst, ReportEach, IsGraphReport, GraphReportsHaveLines, ShortestReportsCompare, IsSessionReport, IsWholeSession, SessionReportsAreRuns}
 use Rattle.md_report.specs.Protocols.{CanEnd}
 use Rattle.md_report.proofs.Protocols.{lines_lead_by}
-use Rattle.md_report.proofs.ItemLines.{HasGraphs, item_tells, state_graphs, tree_line, some_p4, item_line}
+use Rattle.md_report.proofs.ItemLines.{HasGraphs, item_tells, state_graphs, tree_line, some_p4, some_bar, item_line}
 
 -- the place behind the first line in mode quiet, by that line
 pub stopped_place : (g : PlainGraph) (items : List Item) (line : PlainLine) → HasP4Line not_cograph g line → quiet_place g items line ≡ at_end
@@ -51,6 +53,7 @@ behind_sound : (mode : SessionMode) (s : State) (items : List Item) (line : Plai
 behind_sound Edit s [] line sound may = tt
 behind_sound Cograph s [] line sound may = tt
 behind_sound Quiet s [] line sound may = tt
+behind_sound (Of class) s [] line sound may = tt
 behind_sound mode s (item ∷ items) line sound may =
     (state_graphs mode s item line sound.0 (All-head (IsScriptItem NAMES) item items sound.1).names may, All-tail (IsScriptItem NAMES) item items sound.1)
 
@@ -62,6 +65,7 @@ next_sound (at_graphs mode (g ∷ graphs)) line sound may = sound.1
 next_sound (before_session mode g items) line sound may = sound
 next_sound (at_state Edit g items) line sound may = ((sound.0, tt), items_sound (tells_bar line) items sound.1)
 next_sound (at_state Cograph g items) line sound may = ((sound.0, tt), items_sound (tells_bar line) items sound.1)
+next_sound (at_state (Of class) g items) line sound may = ((sound.0, tt), items_sound (tells_bar line) items sound.1)
 next_sound (at_state Quiet g items) line sound (inl path) = subst IsSound (sym (stopped_place g items line path)) tt
 next_sound (at_state Quiet g items) line sound (inr first) = subst IsSound (sym (first_place g items line first.1)) (behind_sound Quiet (first_state g) items line ((sound.0, tt), sound.1) first.1)
 next_sound (at_items mode s items) line sound may = behind_sound mode s items line sound may
@@ -131,6 +135,14 @@ opening_line g is =
       | inr none ↦ let line = tree_line tree g is in (line.0, inr (none, line.1))
     ]
 
+-- each graph has a line that opens a session on a class
+class_opening : (class : Class) (g : PlainGraph) → IsGraph g → (line : PlainLine) × IsClassOpening class g line
+class_opening class g is =
+    elim (some_bar class g is) [
+      | inl bar ↦ (barred bar.0, inl (bar.0, bar.1, refl))
+      | inr none ↦ let line = tree_line tree g is in (line.0, inr (none, line.1))
+    ]
+
 -- lines lead from graphs to the end
 reported : (mode : GraphMode) (graphs : List PlainGraph) → AreGraphs graphs → (lines : List PlainLine) × Lead (at_graphs mode graphs) lines after_end
 reported mode [] sound = (end ∷ [], (refl, refl))
@@ -143,6 +155,7 @@ reported mode (g ∷ graphs) sound =
 closed : (mode : SessionMode) (s : State) → HasGraphs s → (lines : List PlainLine) × Lead (at_items mode s []) lines after_end
 closed Edit s has = (end ∷ [], (refl, refl))
 closed Cograph s has = (end ∷ [], (refl, refl))
+closed (Of class) s has = (end ∷ [], (refl, refl))
 closed Quiet s has = let line = tree_line tree s.graph has.0 in (line.0 ∷ end ∷ [], (line.1, (refl, refl)))
 
 answered : (mode : SessionMode) (items : List Item) (s : State) → HasGraphs s → All (IsScriptItem NAMES) items → (lines : List PlainLine) × Lead (at_items mode s items) lines after_end
@@ -171,6 +184,11 @@ from_state Cograph g items is are =
     let rest : (lines : List PlainLine) × Lead (at_items Cograph (first_state g) (items_behind line.0 items)) lines after_end =
     answered Cograph (items_behind line.0 items) (first_state g) (is, tt) (items_sound (tells_bar line.0) items are) in
     (line.0 ∷ rest.0, (line.1, rest.1))
+from_state (Of class) g items is are =
+    let line : (line : PlainLine) × IsClassOpening class g line = class_opening class g is in
+    let rest : (lines : List PlainLine) × Lead (at_items (Of class) (first_state g) (items_behind line.0 items)) lines after_end =
+    answered (Of class) (items_behind line.0 items) (first_state g) (is, tt) (items_sound (tells_bar line.0) items are) in
+    (line.0 ∷ rest.0, (line.1, rest.1))
 from_state Quiet g items is are =
     elim (some_p4 g is) [
       | inl path ↦ (not_cograph path.0 ∷ end ∷ [], (inl (path.0, path.1, refl), (refl, refl)))
@@ -187,7 +205,7 @@ completion (before_head mode graphs) sound =
 completion (at_graphs mode graphs) sound = reported mode graphs sound
 completion (before_session mode g items) sound =
     let rest : (lines : List PlainLine) × Lead (at_state mode g items) lines after_end = from_state mode g items sound.0 sound.1 in
-    (head (session_mode_of mode) ∷ rest.0, (refl, rest.1))
+    (session_head mode ∷ rest.0, (refl, rest.1))
 completion (at_state mode g items) sound = from_state mode g items sound.0 sound.1
 completion (at_items mode s items) sound = answered mode items s sound.0 sound.1
 completion at_end sound = (end ∷ [], (refl, refl))
@@ -277,12 +295,16 @@ cograph_closing : (s : State) (lines : List PlainLine) → Lead (at_items Cograp
 cograph_closing s [] leads = absurd (cc)
 cograph_closing s (line ∷ lines) leads = only_end (line ∷ lines) leads
 
+class_closing : (class : Class) (s : State) (lines : List PlainLine) → Lead (at_items (Of class) s []) lines after_end → lines ≡ end ∷ []
+class_closing class s [] leads = absurd (cc)
+class_closing class s (line ∷ lines) leads = only_end (line ∷ lines) leads
+
 quiet_closing : (s : State) (lines : List PlainLine) → Lead (at_items Quiet s []) lines after_end → (last : PlainLine) × HasTreeLine tree s.graph last × (lines ≡ last ∷ end ∷ [])
 quiet_closing s [] leads = absurd (cc)
 quiet_closing s (line ∷ lines) leads = (line, leads.0, ap (λ l. line ∷ l) (only_end lines leads.1))
 
--- a report of a session in mode edit or cograph, by its lines
-listed : (mode : SessionMode) (g : PlainGraph) (items : List Item) (line first : PlainLine) (lines : List PlainLine) → line ≡ head (session_mode_of mode) → ReportsState mode g first
+-- a report of a session in mode edit or cograph, or on a class, by its lines
+listed : (mode : SessionMode) (g : PlainGraph) (items : List Item) (line first : PlainLine) (lines : List PlainLine) → line ≡ session_head mode → ReportsState mode g first
     → (on : IsCut mode (first_state g) (items_behind first items) lines) → on.closing ≡ end ∷ [] → IsSessionReport mode g items (line ∷ first ∷ lines)
 listed mode g items line first lines is state on ends = record {
   first = first;
@@ -293,7 +315,7 @@ listed mode g items line first lines is state on ends = record {
 }
 
 -- the lines from the first state on in mode quiet: an induced P4 and the end, or those of a cograph
-quiet_report : (g : PlainGraph) (items : List Item) (line : PlainLine) (lines : List PlainLine) → line ≡ head (session_mode_of Quiet) → Lead (at_state Quiet g items) lines after_end →
+quiet_report : (g : PlainGraph) (items : List Item) (line : PlainLine) (lines : List PlainLine) → line ≡ session_head Quiet → Lead (at_state Quiet g items) lines after_end →
     IsWholeSession Quiet g items (line ∷ lines)
 quiet_report g items line [] is leads = absurd (cc)
 quiet_report g items line (first ∷ lines) is (inl path, leads) =
@@ -321,6 +343,10 @@ session_report Cograph g items (line ∷ []) leads = absurd (cc)
 session_report Cograph g items (line ∷ first ∷ lines) leads =
     let on : IsCut Cograph (first_state g) (items_behind first items) lines = cut_run Cograph (items_behind first items) (first_state g) lines leads.1.1 in
     listed Cograph g items line first lines leads.0 leads.1.0 on (cograph_closing (last_state (first_state g) (items_behind first items) on.run) on.closing on.closes)
+session_report (Of class) g items (line ∷ []) leads = absurd (cc)
+session_report (Of class) g items (line ∷ first ∷ lines) leads =
+    let on : IsCut (Of class) (first_state g) (items_behind first items) lines = cut_run (Of class) (items_behind first items) (first_state g) lines leads.1.1 in
+    listed (Of class) g items line first lines leads.0 leads.1.0 on (class_closing class (last_state (first_state g) (items_behind first items) on.run) on.closing on.closes)
 session_report Quiet g items (line ∷ lines) leads = quiet_report g items line lines leads.0 leads.1
 
 report_session : (mode : SessionMode) (g : PlainGraph) (items : List Item) (lines : List PlainLine) → IsWholeSession mode g items lines → Lead (before_session mode g items) lines after_end
@@ -330,6 +356,9 @@ report_session Edit g items lines is =
 report_session Cograph g items lines is =
     subst (λ l. Lead (before_session Cograph g items) l after_end) (sym is.whole)
     (refl, (is.state_line, run_leads Cograph (items_behind is.first items) (first_state g) is.run (end ∷ []) is.runs (refl, refl)))
+report_session (Of class) g items lines is =
+    subst (λ l. Lead (before_session (Of class) g items) l after_end) (sym is.whole)
+    (refl, (is.state_line, run_leads (Of class) (items_behind is.first items) (first_state g) is.run (end ∷ []) is.runs (refl, refl)))
 report_session Quiet g items lines (inl stopped) =
     subst (λ l. Lead (before_session Quiet g items) l after_end) (sym stopped.whole) (refl, (inl (stopped.p, stopped.path, refl), (refl, refl)))
 report_session Quiet g items lines (inr is) =

@@ -11,7 +11,7 @@ use Rattle.md_report.specs.declared.line.GraphMode.TheVariants as graph_modes
 use Rattle.md_report.specs.declared.line.SessionMode.{SessionMode}
 use Rattle.md_report.specs.declared.line.SessionMode.TheVariants as session_modes
 use Rattle.md_report.specs.declared.line.Mode.TheVariants as modes
-use Rattle.md_report.specs.Lines.{PlainLine, mode_of, session_mode_of, line_text, head, tree, not_cograph, end}
+use Rattle.md_report.specs.Lines.{PlainLine, mode_of, session_head, line_text, head, tree, not_cograph, end}
 use Rattle.md_report.specs.Sessions.{State, first_state, HasTreeLine, last_state, states_behind, is_applied, count_applied, count_refused}
 use Rattle.md_report.specs.Cographs.{IsP4Of, IsCograph}
 use Rattle.md_report.specs.ItemLines.{Run}
@@ -63,14 +63,14 @@ ShortestReportsCompare =
     (graphs : List PlainGraph) (bytes : List ℕ) →
     IsReport (before_head graph_modes.Shortest graphs) bytes → IsReport (before_head graph_modes.Compare graphs) bytes
 
--- A whole report of a session over a script in mode edit or cograph: the head, the line of the first state, the lines of the items
+-- A whole report of a session over a script in mode edit or cograph, or on a class: the head, the line of the first state, the lines of the items
 -- that are answered behind it, and the end.
 pub record IsSessionReport (mode : SessionMode) (g : PlainGraph) (items : List Item) (lines : List PlainLine) : Type 0 where
   pub first : PlainLine
   pub run : List PlainLine
   pub state_line : ReportsState mode g first
   pub runs : Run mode (first_state g) (items_behind first items) run
-  pub whole : lines ≡ head (session_mode_of mode) ∷ first ∷ (run ++ end ∷ [])
+  pub whole : lines ≡ session_head mode ∷ first ∷ (run ++ end ∷ [])
 
 -- A whole report in mode quiet of a session on a graph with an induced P4: the head, the induced P4, and the end.
 pub record IsStoppedReport (g : PlainGraph) (lines : List PlainLine) : Type 0 where
@@ -93,6 +93,7 @@ abbrev pub IsWholeSession : SessionMode → PlainGraph → List Item → List Pl
 IsWholeSession session_modes.Edit g items lines = IsSessionReport session_modes.Edit g items lines
 IsWholeSession session_modes.Cograph g items lines = IsSessionReport session_modes.Cograph g items lines
 IsWholeSession session_modes.Quiet g items lines = IsStoppedReport g lines ⊎ IsQuietReport g items lines
+IsWholeSession (session_modes.Of class) g items lines = IsSessionReport (session_modes.Of class) g items lines
 
 -- Lines lead from before a session to the end exactly where they are such a report.
 abbrev pub SessionReportsAreRuns : Type 0
@@ -113,6 +114,7 @@ abbrev pub KeepsCographs : SessionMode → Type 0
 KeepsCographs session_modes.Edit = ⊥
 KeepsCographs session_modes.Cograph = ⊤
 KeepsCographs session_modes.Quiet = ⊤
+KeepsCographs (session_modes.Of class) = ⊥
 
 -- Two runs of sessions on cographs, each in mode cograph or quiet, do so.
 abbrev pub CographRunsApplyAlike : Type 0

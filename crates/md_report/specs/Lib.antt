@@ -1,5 +1,6 @@
 pub mod Lines
 pub mod Sessions
+pub mod Classes
 pub mod Cographs
 pub mod Made
 pub mod Orientations

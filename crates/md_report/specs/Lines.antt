@@ -101,11 +101,12 @@ limit_of_mode graph_modes.Compare = ORIENTED
 limit_of_mode graph_modes.Shortest = ORIENTED
 limit_of_mode graph_modes.Permute = ORIENTED
 
--- what a report of a session is about
-abbrev pub session_mode_of : SessionMode → Mode
-session_mode_of session_modes.Edit = modes.Edit
-session_mode_of session_modes.Cograph = modes.Cograph
-session_mode_of session_modes.Quiet = modes.Quiet
+-- the first line of a report of a session
+abbrev pub session_head : SessionMode → PlainLine
+session_head session_modes.Edit = head modes.Edit
+session_head session_modes.Cograph = head modes.Cograph
+session_head session_modes.Quiet = head modes.Quiet
+session_head (session_modes.Of class) = head_class class
 
 -- the word of a mode
 abbrev pub mode_word : Mode → List ℕ
@@ -120,6 +121,10 @@ mode_word modes.Quiet = codes "quiet"
 abbrev pub class_word : Class → List ℕ
 class_word Trivial = codes "trivial"
 class_word Threshold = codes "threshold"
+
+-- the class with this word
+abbrev pub class_of_word : List ℕ → Option Class
+class_of_word word = find (λ class. bytes_eq word (class_word class)) (Trivial ∷ Threshold ∷ [])
 
 -- all modes
 abbrev pub all_modes : List Mode

@@ -6,12 +6,13 @@ use Rattle.md_script.specs.declared.item.Item.{Item}
 use Rattle.md_report.specs.declared.line.GraphMode.{GraphMode}
 use Rattle.md_report.specs.declared.line.GraphMode.TheVariants.{Tree, Compare, Shortest, Permute}
 use Rattle.md_report.specs.declared.line.SessionMode.{SessionMode}
-use Rattle.md_report.specs.declared.line.SessionMode.TheVariants.{Edit, Cograph, Quiet}
-use Rattle.md_report.specs.Lines.{PlainLine, mode_of, session_mode_of, head, tree, barred, not_cograph, end}
+use Rattle.md_report.specs.declared.line.SessionMode.TheVariants.{Edit, Cograph, Quiet, Of}
+use Rattle.md_report.specs.Lines.{PlainLine, mode_of, session_head, head, tree, barred, not_cograph, end}
 use Rattle.md_report.specs.Orientations.{IsOrientationLine, IsShortestLine}
 use Rattle.md_report.specs.Models.{IsModelLine}
 use Rattle.md_report.specs.Sessions.{State, first_state, HasTreeLine, state_behind}
 use Rattle.md_report.specs.Cographs.{IsCograph, HasP4Line, IsOpeningLine}
+use Rattle.md_report.specs.Classes.{IsClassOpening}
 use Rattle.md_report.specs.ItemLines.{AnswersItem}
 use Rattle.md_report.specs.Protocols.{LeadBy}
 
@@ -37,23 +38,26 @@ Reports Shortest g line = IsShortestLine (adjacent g) line
 Reports Permute g line = IsModelLine g line
 
 -- the line that reports the first state of a session: in mode edit its tree of strong modules, in mode cograph that tree or an
--- induced P4, in mode quiet an induced P4
+-- induced P4, in mode quiet an induced P4, on a class that tree or a bar
 abbrev pub ReportsState : SessionMode → PlainGraph → PlainLine → Type 0
 ReportsState Edit g line = HasTreeLine tree g line
 ReportsState Cograph g line = IsOpeningLine g line
 ReportsState Quiet g line = HasP4Line not_cograph g line
+ReportsState (Of class) g line = IsClassOpening class g line
 
--- the line behind the answers to all items, where g is the last graph: in modes edit and cograph the end, in mode quiet the tree of g
+-- the line behind the answers to all items, where g is the last graph: in mode quiet the tree of g, in the others the end
 abbrev pub ClosesItems : SessionMode → PlainGraph → PlainLine → Type 0
 ClosesItems Edit g line = line ≡ end
 ClosesItems Cograph g line = line ≡ end
 ClosesItems Quiet g line = HasTreeLine tree g line
+ClosesItems (Of class) g line = line ≡ end
 
 -- the place behind that line
 abbrev pub closed_place : SessionMode → Place
 closed_place Edit = after_end
 closed_place Cograph = after_end
 closed_place Quiet = at_end
+closed_place (Of class) = after_end
 
 -- the line may come at a state where these items are still to be answered
 abbrev pub ComesAtItems : SessionMode → State → List Item → PlainLine → Type 0
@@ -80,6 +84,7 @@ abbrev pub OpensSession : SessionMode → PlainGraph → List Item → PlainLine
 OpensSession Edit g items line = ReportsState Edit g line
 OpensSession Cograph g items line = ReportsState Cograph g line
 OpensSession Quiet g items line = ReportsState Quiet g line ⊎ (IsCograph g × ComesAtItems Quiet (first_state g) items line)
+OpensSession (Of class) g items line = ReportsState (Of class) g line
 
 -- the place behind the first line of a session in mode quiet: before the end where the line tells of a bar
 abbrev pub quiet_place : PlainGraph → List Item → PlainLine → Place
@@ -90,13 +95,14 @@ abbrev pub opened_place : SessionMode → PlainGraph → List Item → PlainLine
 opened_place Edit g items line = at_items Edit (first_state g) (items_behind line items)
 opened_place Cograph g items line = at_items Cograph (first_state g) (items_behind line items)
 opened_place Quiet g items line = quiet_place g items line
+opened_place (Of class) g items line = at_items (Of class) (first_state g) (items_behind line items)
 
 -- the line may come at the place
 abbrev pub MayCome : Place → PlainLine → Type 0
 MayCome (before_head mode graphs) line = line ≡ head (mode_of mode)
 MayCome (at_graphs mode (g ∷ graphs)) line = Reports mode g line
 MayCome (at_graphs mode []) line = line ≡ end
-MayCome (before_session mode g items) line = line ≡ head (session_mode_of mode)
+MayCome (before_session mode g items) line = line ≡ session_head mode
 MayCome (at_state mode g items) line = OpensSession mode g items line
 MayCome (at_items mode s items) line = ComesAtItems mode s items line
 MayCome at_end line = line ≡ end

@@ -15,14 +15,9 @@ abbrev pub state_of : PlainGraph → List (List Edit) → State
 state_of g items = record { graph = g; earlier = graphs_before g items }
 
 -- one step of a session over an item, from the graph g and a history of these items to the graph h and the items that are left: the line
--- answers the item, the state is that behind it, the history fits the graph over those that may be a state, and it stays where the item is
--- refused
-pub record ItemStepBy (limit : ℕ) (Allowed : PlainGraph → Type 0) (Answers : State → Item → PlainLine → Type 0) (g : PlainGraph) (items : List (List Edit)) (item : Item) (line : PlainLine) (h : PlainGraph) (left : List (List Edit)) : Type 0 where
-  pub line_is : Answers (state_of g items) item line
+-- answers the item, the state is that behind it, the history fits the graph, and it stays where the item is refused
+pub record ItemStep (limit : ℕ) (mode : SessionMode) (g : PlainGraph) (items : List (List Edit)) (item : Item) (line : PlainLine) (h : PlainGraph) (left : List (List Edit)) : Type 0 where
+  pub line_is : AnswersItem mode (state_of g items) item line
   pub state_is : state_of h left ≡ state_behind (state_of g items) item line
-  pub fits : HistoryFits limit Allowed h left
+  pub fits : HistoryFits limit (IsAllowed mode) h left
   pub kept : is_applied line ≡ false → left ≡ items
-
--- the same of a mode
-abbrev pub ItemStep : ℕ → SessionMode → PlainGraph → List (List Edit) → Item → PlainLine → PlainGraph → List (List Edit) → Type 0
-ItemStep limit mode = ItemStepBy limit (IsAllowed mode) (AnswersItem mode)

@@ -14,10 +14,12 @@ mod writer;
 pub use line::{GraphMode, Line, Mode, ORIENTED, SessionMode};
 pub use made::made_p4;
 pub use md_comparability::Order;
-pub use mode_words::{mode_of_word, mode_word};
+pub use mode_words::{class_of_word, class_word, mode_of_word, mode_word};
 pub use pieces::{behind_space, names, split_number};
 pub use reader::{LineFault, read_line};
-pub use writer::{push_edit, push_names, write_applied, write_line, write_tree};
+pub use writer::{
+    push_edit, push_names, write_applied, write_line, write_session_head, write_tree,
+};
 
 #[cfg(test)]
 mod tests;

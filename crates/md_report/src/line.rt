@@ -1,5 +1,6 @@
 //! The modes and the lines of reports.
 use crate::Order;
+use md_bar_tree::Class;
 use md_forcing::{Arcs, Chain};
 use md_graph::NAMES;
 use md_modules::P4;
@@ -107,22 +108,9 @@ pub enum SessionMode {
     /// Of the last state its tree of strong modules, of the others nothing; no state has an induced
     /// P4, and an edit that would make one is refused.
     Quiet,
-}
-
-impl SessionMode {
-    ghost use Rattle.std.specs.Prelude.{◌≡◌};
-    ghost use Rattle.md_report.specs.Lines.{session_mode_of};
-
-    /// What the whole report is about.
-    pub fn mode(self) -> Mode
-        ensures { result ≡ session_mode_of self }
-    {
-        match self {
-            SessionMode::Edit => Mode::Edit,
-            SessionMode::Cograph => Mode::Cograph,
-            SessionMode::Quiet => Mode::Quiet,
-        }
-    }
+    /// Its tree of strong modules; no state has a bar of the class, and an edit that would make one
+    /// is refused.
+    Of(Class),
 }
 
 /// A line of a report.

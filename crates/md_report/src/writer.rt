@@ -3,10 +3,10 @@ ghost use Rattle.std.specs.Prelude.{◌≡◌, ◌++◌, IfOk, OnOk, codes};
 ghost use Rattle.md_text.specs.Numbers.{decimal};
 ghost use Rattle.md_tree.specs.Plain.{plain_option};
 ghost use Rattle.md_report.specs.Lines as lines;
-ghost use Rattle.md_report.specs.Lines.{plain_line, reason_words, names_text, p4_text, arc_text, arcs_text, line_text};
+ghost use Rattle.md_report.specs.Lines.{plain_line, reason_words, names_text, p4_text, arc_text, arcs_text, line_text, session_head};
 
-use crate::Line;
-use crate::mode_words::mode_word;
+use crate::mode_words::{class_word, mode_word};
+use crate::{Line, Mode, SessionMode};
 use md_forcing::Arc;
 use md_graph::Memory;
 use md_modules::P4;
@@ -80,6 +80,29 @@ pub fn write_line(alloc: Global, line: &Line) -> Result<Vec<u8>, Memory>
         Line::End => text.extend_from_slice(b"end")?,
     }
     Ok(text)
+}
+
+/// The text of the first line of a report of a session, without a line feed. Errors: want of
+/// memory.
+pub fn write_session_head(alloc: Global, mode: SessionMode) -> Result<Vec<u8>, Memory>
+    ensures { IfOk result (λ text. text.items ≡ line_text (session_head mode)) }
+{
+    let mut text = Vec::with_capacity(alloc, SHORT)?;
+    text.extend_from_slice(b"mdt ")?;
+    text.extend_from_slice(session_word(mode).as_bytes())?;
+    Ok(text)
+}
+
+// The word of the mode of a session.
+fn session_word(mode: SessionMode) -> &'static str
+    ensures { line_text (session_head mode) ≡ codes "mdt " ++ result.now }
+{
+    match mode {
+        SessionMode::Edit => mode_word(Mode::Edit),
+        SessionMode::Cograph => mode_word(Mode::Cograph),
+        SessionMode::Quiet => mode_word(Mode::Quiet),
+        SessionMode::Of(class) => class_word(class),
+    }
 }
 
 /// The text of the line of a tree, as of `Line::Tree`, without a line feed. Errors: want of memory.

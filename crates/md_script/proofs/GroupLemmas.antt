@@ -211,3 +211,15 @@ one_goes_back limit Kept g h edit back kept takes next =
       may = (tt, (ap (λ (k : PlainGraph). reason_of k back) next ∙ takes.no_reason, (takes.names, subst Kept (sym home) kept)));
       leads = home;
     }
+
+-- ---- what may be taken back
+
+-- over more graphs
+pub back_weaker : (limit : ℕ) (Kept Other : PlainGraph → Type 0) → ((k : PlainGraph) → Kept k → Other k) → (g : PlainGraph) (edits : List Edit) → MayBack limit Kept g edits → MayBack limit Other g edits
+back_weaker limit Kept Other weaker g [] may = tt
+back_weaker limit Kept Other weaker g (edit ∷ edits) may = (back_weaker limit Kept Other weaker g edits may.0, (may.1.0, (may.1.1.0, weaker _ may.1.1.1)))
+
+-- the graph before edits that can be taken back is one of those that may be kept
+pub back_kept : (limit : ℕ) (Kept : PlainGraph → Type 0) (g : PlainGraph) (edits : List Edit) → Kept g → MayBack limit Kept g edits → Kept (taken_back g edits)
+back_kept limit Kept g [] kept may = kept
+back_kept limit Kept g (edit ∷ edits) kept may = may.1.1.1

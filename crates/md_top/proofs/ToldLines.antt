@@ -11,7 +11,7 @@ use Rattle.md_script.specs.declared.item.Item.TheVariants.{One, Undo, Group}
 use Rattle.md_script.specs.Edit.{reason_of, after}
 use Rattle.md_script.specs.Pasts.{all_after}
 use Rattle.md_report.specs.declared.line.SessionMode.{SessionMode}
-use Rattle.md_report.specs.declared.line.SessionMode.TheVariants.{Edit, Cograph, Quiet}
+use Rattle.md_report.specs.declared.line.SessionMode.TheVariants.{Edit, Cograph, Quiet, Of}
 use Rattle.md_report.specs.declared.line.Line.{Line}
 use Rattle.md_report.specs.Lines.{PlainLine, plain_line}
 use Rattle.md_report.specs.Cographs.{IsCograph, IsPathOf}
@@ -29,11 +29,13 @@ barred_in : (mode : SessionMode) → KeepsCographs mode → (g : PlainGraph) (ba
 barred_in Edit kept g bar path = absurd kept
 barred_in Cograph kept g bar path = path
 barred_in Quiet kept g bar path = path
+barred_in (Of class) kept g bar path = absurd kept
 
 allowed_in : (mode : SessionMode) → KeepsCographs mode → (g : PlainGraph) → IsCograph g → IsAllowed mode g
 allowed_in Edit kept g none = absurd kept
 allowed_in Cograph kept g none = none
 allowed_in Quiet kept g none = none
+allowed_in (Of class) kept g none = absurd kept
 
 -- a line that refuses, and one that tells that an item was applied
 same_refusal : (mode : SessionMode) (h : PlainGraph) (line second form : PlainLine) → IsToldLine mode h line second → line ≡ form → is_applied form ≡ false → second ≡ form

@@ -6,12 +6,15 @@ use Rattle.std.specs.declared.alloc.Global.{Global}
 use Rattle.std.specs.declared.string.String.{String}
 use Rattle.std.specs.Str.{bytes_eq}
 use Rattle.md_text.specs.Numbers.{number_of}
+use Rattle.md_bar_tree.specs.declared.Class.{Class}
 use Rattle.md_input.specs.declared.format.Format.{Format}
 use Rattle.md_input.specs.declared.format.Format.TheVariants.{G6, Dimacs}
 use Rattle.md_report.specs.declared.line.GraphMode.{GraphMode}
 use Rattle.md_report.specs.declared.line.GraphMode.TheVariants.{Shortest}
 use Rattle.md_report.specs.declared.line.SessionMode.{SessionMode}
-use Rattle.md_report.specs.Lines.{mode_of_word, as_graph_mode, as_session_mode}
+use Rattle.md_report.specs.declared.line.SessionMode.TheVariants.{Of}
+use Rattle.md_report.specs.declared.line.Mode.{Mode}
+use Rattle.md_report.specs.Lines.{mode_of_word, class_of_word, as_graph_mode, as_session_mode}
 use Rattle.md_top.specs.declared.big.TheConstants.{BIGGEST}
 use Rattle.md_top.specs.declared.request.Subject.{Subject}
 use Rattle.md_top.specs.declared.request.Subject.TheVariants.{Graphs, Session, Digraphs}
@@ -76,9 +79,14 @@ graph_mode word =
     if bytes_eq word (codes "shortest") then Some Shortest
     else option_and_then as_graph_mode (mode_of_word word)
 
--- the mode of a report over a graph and a script
+-- the mode of sessions on a class, or that of sessions that a mode is
+abbrev pub session_mode_by : Option Class → Option Mode → Option SessionMode
+session_mode_by (Some class) mode = Some (Of class)
+session_mode_by None mode = option_and_then as_session_mode mode
+
+-- the mode of a report over a graph and a script: a class, or a mode of sessions
 abbrev pub session_mode : List ℕ → Option SessionMode
-session_mode word = option_and_then as_session_mode (mode_of_word word)
+session_mode word = session_mode_by (class_of_word word) (mode_of_word word)
 
 -- a report over the graphs of a file, if the words name a mode and a format
 abbrev pub graphs_subject : Option GraphMode → Option Format → List ℕ → Option (Subject (List ℕ))

@@ -3,6 +3,7 @@
 
 mod big;
 mod check;
+mod classes;
 mod cographs;
 mod convert;
 mod directed;

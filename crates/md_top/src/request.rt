@@ -6,7 +6,7 @@ ghost use Rattle.md_top.specs.Request.{texts, format_of, graph_mode, session_mod
 
 use crate::big::BIGGEST;
 use md_input::Format;
-use md_report::{GraphMode, SessionMode, mode_of_word};
+use md_report::{GraphMode, SessionMode, class_of_word, mode_of_word};
 use md_text::number;
 
 /// What a report is over, by what stands for each file: its name, or its bytes; and its mode, where
@@ -152,5 +152,8 @@ fn graph_mode(word: &str) -> Option<GraphMode>
 fn session_mode(word: &str) -> Option<SessionMode>
     ensures { result ≡ session_mode word.now }
 {
+    if let Some(class) = class_of_word(word.as_bytes()) {
+        return Some(SessionMode::Of(class));
+    }
     mode_of_word(word.as_bytes())?.as_session_mode()
 }

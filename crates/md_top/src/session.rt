@@ -21,6 +21,7 @@ ghost use Rattle.md_top.specs.declared.request.Request.{Request};
 ghost use Rattle.md_top.specs.Command.{CommandEnds};
 ghost use Rattle.md_top.specs.Sinks.{sink_run, PutsLines};
 
+use crate::classes::put_class;
 use crate::cographs::put_cographs;
 use crate::put::{fed, put_report_line, put_text};
 use crate::stop::{PutStop, Stop, Verdict};
@@ -28,7 +29,9 @@ use crate::undos::{forget_unreached, undos_behind};
 use md_graph::{GraphOf, Memory, Steps};
 use md_input::{Format, SessionInputs, session_inputs};
 use md_io::Sink;
-use md_report::{Line, SessionMode, write_applied, write_line, write_tree};
+use md_report::{
+    Line, SessionMode, write_applied, write_line, write_session_head, write_tree,
+};
 use md_script::{HistoryOf, Item, Script};
 use md_session::{LocalAnswer, LocalSessionOf};
 use std::alloc::Global;
@@ -97,11 +100,13 @@ fn put_session<const W: usize, O: Sink, L: Ledger>(
         (sink_run O.Sink out.old out.new) }
     ensures faults_never_fall { O.faults out.old ≤ O.faults out.new }
 {
-    put_report_line(alloc, Line::Head(mode.mode()), out)?;
+    let head = fed(write_session_head(alloc, mode)?)?;
+    put_text(&head, out)?;
     match mode {
         SessionMode::Edit => put_states(alloc, graph, script, steps, out),
         SessionMode::Cograph => put_cographs(alloc, true, graph, script, steps, out),
         SessionMode::Quiet => put_cographs(alloc, false, graph, script, steps, out),
+        SessionMode::Of(class) => put_class(alloc, class, graph, script, steps, out),
     }
 }
 

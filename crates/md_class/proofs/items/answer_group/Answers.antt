@@ -3,7 +3,7 @@ use Rattle.md_graph.proofs.Limits.{words_few}
 use Rattle.md_tree.specs.Plain.{plain_option}
 use Rattle.md_bar.specs.declared.ClassLine.{ClassLine}
 use Rattle.md_bar.specs.ClassLines.{plain_class_line}
-use Rattle.md_bar.specs.ClassSteps.{IsAllowedIn}
+use Rattle.md_report.specs.Classes.{IsAllowedIn}
 use Rattle.md_class.specs.ClassAnswers.{IsGroupEnd}
 use Rattle.md_class.proofs.ClassItems.{goes, may_back, whole_group, ended_group}
 use Rattle.md_class.proofs.items.answer_group.Goals as goal

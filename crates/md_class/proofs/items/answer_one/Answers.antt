@@ -1,7 +1,7 @@
 use Rattle.std.proofs.Common.{◌*◌, Ok, sym, ◌∙◌, subst}
 use Rattle.md_graph.proofs.Limits.{words_few}
 use Rattle.md_cograph.proofs.GoingBack.{same_rest}
-use Rattle.md_bar.specs.ClassSteps.{IsAllowedIn}
+use Rattle.md_report.specs.Classes.{IsAllowedIn}
 use Rattle.md_class.specs.declared.items.Answer.{Answer}
 use Rattle.md_class.specs.ClassAnswers.{IsAnswered}
 use Rattle.md_class.proofs.ClassItems.{applied_one, reason_one, barred_one}

@@ -2,7 +2,7 @@ use Rattle.std.proofs.Common.{Ok, refl, sym, ◌∙◌, subst, arith}
 use Rattle.md_graph.specs.PlainGraph.{PlainGraph}
 use Rattle.md_script.specs.Pasts.{inverse_of, HasApplied}
 use Rattle.md_script.proofs.GroupLemmas.{applied_more}
-use Rattle.md_bar.specs.ClassSteps.{IsAllowedIn}
+use Rattle.md_report.specs.Classes.{IsAllowedIn}
 use Rattle.md_class.specs.declared.items.Answer.{Answer}
 use Rattle.md_class.specs.ClassAnswers.{IsAnswered}
 use Rattle.md_class.proofs.ClassItems.{bar_ends}

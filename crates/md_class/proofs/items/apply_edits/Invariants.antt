@@ -2,7 +2,7 @@ use Rattle.std.proofs.Common.{◌≡◌, ◌+◌, ◌≤◌, List, [], ◌∷◌
 use Rattle.md_cotree.specs.Cotrees.{Denotes}
 use Rattle.md_script.specs.declared.edit.Edit.{Edit}
 use Rattle.md_script.specs.Pasts.{HasApplied}
-use Rattle.md_bar.specs.ClassSteps.{IsAllowedIn}
+use Rattle.md_report.specs.Classes.{IsAllowedIn}
 use Rattle.md_class.proofs.items.apply_edits.Given as goal
 
 abbrev pub invariant-loop-i : goal.invariant-loop-i

@@ -1,7 +1,7 @@
 use Rattle.std.proofs.Common.{◌*◌}
 use Rattle.md_graph.specs.declared.TheConstants.{WORDS}
 use Rattle.md_script.specs.Histories.{HistoryFits}
-use Rattle.md_bar.specs.ClassSteps.{IsAllowedIn}
+use Rattle.md_report.specs.Classes.{IsAllowedIn}
 use Rattle.md_class.proofs.tests.check.Given as goal
 
 abbrev pub invariant-loop-i : goal.invariant-loop-i

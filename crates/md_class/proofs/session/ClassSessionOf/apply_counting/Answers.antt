@@ -2,7 +2,7 @@ use Rattle.std.proofs.Common.{◌≤◌, ◌*◌, sym, subst, rules}
 use Rattle.md_script.specs.declared.item.Item.{Item}
 use Rattle.md_script.specs.Items.{HasItemNamesBelow, room_for}
 use Rattle.md_script.specs.Histories.{HistoryFits}
-use Rattle.md_bar.specs.ClassSteps.{IsAllowedIn}
+use Rattle.md_report.specs.Classes.{IsAllowedIn}
 use Rattle.md_class.specs.ClassSessions.{PlainClassSession}
 use Rattle.md_class.proofs.ClassGraphs.{fits_cographs}
 use Rattle.md_class.proofs.session.ClassSessionOf.apply_counting.Goals as goal
