@@ -24,3 +24,6 @@ mod Taking
 mod Cotrees
 mod Splitting
 mod PathLines
+mod Crossings
+mod Unchanged
+mod LineTrees
