@@ -7,8 +7,8 @@
 For each file in `examples/`, random graphs and random scripts, each report that the program writes has to be
 accepted. Then each of its lines is dropped, written twice, and exchanged with the next, and the bytes behind the
 last line feed are cut: the answer has to be `rejected line N`, N the first line that is another one than before; or,
-where a line is one of several that may stand there (a P4, a chain, orders), a line behind that. Ends with 1 where an
-answer is another one.
+where a line is one of several that may stand there (a P4, C4 or 2K2, a chain, orders), a line behind that. Ends with 1
+where an answer is another one.
 """
 import argparse
 import glob
@@ -22,7 +22,7 @@ import tempfile
 TOP = os.path.dirname(os.path.dirname(os.path.abspath(__file__)))
 
 # The modes in which a line may be one of several.
-FREE = ("compare", "permute", "cograph")
+FREE = ("compare", "permute", "cograph", "trivial", "threshold")
 
 
 def graph6(n, edges):
@@ -33,6 +33,11 @@ def graph6(n, edges):
 
 def random_graph(r, n, density):
     return graph6(n, {(u, v) for v in range(n) for u in range(v) if r.random() < density})
+
+
+def random_threshold(r, n):
+    """A graph in which each vertex is adjacent to all before it, or to none of them."""
+    return graph6(n, {(u, v) for v in range(n) if r.random() < .5 for u in range(v)})
 
 
 def random_script(r, n, length):
@@ -122,7 +127,11 @@ def main():
                 file.write(random_script(r, n, r.randrange(0, 12)))
             for mode in ("tree", "compare", "permute"):
                 checks.try_all([mode, "g6", graph])
-            for mode in ("edit", "cograph"):
+            for mode in ("edit", "cograph", "trivial", "threshold"):
+                checks.try_all([mode, "g6", graph, script])
+            with open(graph, "wb") as file:
+                file.write(random_threshold(r, n))
+            for mode in ("trivial", "threshold"):
                 checks.try_all([mode, "g6", graph, script])
         print("%d checks, %d wrong" % (checks.tried, checks.wrong))
     return 1 if checks.wrong else 0

@@ -15,8 +15,9 @@ For one run of every command over small inputs, for wrong words and wrong input,
     each is interrupted by a signal in turn, and each takes one byte alone in turn;
   * the address space is limited, from 2 to 60 MB.
 
-Trees of depth 4,095 are tried with a stack of 512 KB, with requests refused that are spread over the run. Checks of
-quiet reports over deep trees are slow, and tried with few requests refused.
+Trees of depth 4,095 are tried with a stack of 512 KB, and sessions over one of depth 16,383 with 2 MB, with requests
+refused that are spread over the run. Checks of quiet reports over deep trees are slow, and tried with few requests
+refused.
 
 A run in which nothing is refused says what is right; where it is a report, `check` has to accept it. A run in which
 memory is refused has to end as that one, or with the status Memory, its line, and a beginning of the same output, or
@@ -40,6 +41,7 @@ from run import build, cograph, d6, dense, dimacs, g6, nested_orders, permutatio
 MOST_REQUESTS = 2000
 MEGABYTE = 1 << 20
 SHORT_STACK = 512 << 10
+STACK_OF_LARGEST = 2 << 20
 
 MEMORY = (6, b"mdt: memory\n")
 WRITE_FAULT = (5, b"mdt: write fault\n")
@@ -63,6 +65,17 @@ FILES = {
     "apart.g6": b"Cg\n",
     "apart.txt": b"+e 2 3\n+e 1 3\nbegin\n+e 0 2\n-e 0 2\n-e 1 3\n+e 2 3\n-v 0\ncommit\n"
                  b"begin\n-v 1\n+v 1 0 2\ncommit\nundo\nundo\nundo\n",
+    # A path of three vertices. One edit is applied, the next three would make an induced path, two edges apart and an
+    # induced cycle, and a vertex next to all is taken in; a group is refused for each of the three, one is applied, and
+    # all is taken back, until nothing is left to undo.
+    "bars.g6": b"Bg\n",
+    "bars.txt": b"+v 3\n+e 0 3\n+v 4 3\n+v 4 0 2\n+v 4 0 1 2 3\n-v 9\nbegin\n-v 4\n+v 4 3\n+v 5\ncommit\n"
+                b"begin\n-v 4\n+v 5\n+v 4 0 2\ncommit\nbegin\n-v 4\n+e 0 3\ncommit\n"
+                b"begin\n-v 4\n+v 5 1\ncommit\nundo\nundo\nundo\nundo\n",
+    # An induced cycle, and two edges apart: no graphs that such sessions begin with.
+    "cycle.g6": b"Cl\n",
+    "apart_edges.g6": b"C`\n",
+    "small_threshold.g6": g6(threshold(12)),
     # A path of four vertices, a cycle of six, one of five, the graph without vertices, two vertices: orders, a chain of
     # the complement, a chain, and orders again.
     "models.g6": b"Ch\nEhEG\nDhc\n?\nA?\n",
@@ -84,6 +97,8 @@ FILES = {
     "deepest.g6": g6(threshold(4096)),
     "deepest.d6": d6(nested_orders(4096)),
     "deepest.txt": b"-v 4095\n",
+    "largest.g6": g6(threshold(16384)),
+    "largest.txt": b"-v 16383\n",
 }
 
 # The reports that are checked: the file that each is written to, and the words that write it.
@@ -99,6 +114,12 @@ REPORTS = {
     "apart_quiet.txt": ["quiet", "g6", "apart.g6", "apart.txt"],
     "prime_report.txt": ["edit", "g6", "prime.g6", "prime.txt"],
     "path.txt": ["cograph", "g6", "prime.g6", "prime.txt"],
+    "trivial_report.txt": ["trivial", "g6", "bars.g6", "bars.txt"],
+    "threshold_report.txt": ["threshold", "g6", "bars.g6", "bars.txt"],
+    "small_threshold.txt": ["threshold", "g6", "small_threshold.g6", "cograph.txt"],
+    "cycle_report.txt": ["trivial", "g6", "cycle.g6", "bars.txt"],
+    "apart_edges.txt": ["threshold", "g6", "apart_edges.g6", "bars.txt"],
+    "path_threshold.txt": ["threshold", "g6", "prime.g6", "prime.txt"],
     "tree_dimacs.txt": ["tree", "dimacs", "one.col"],
     "dtree.txt": ["dtree", "many.d6"],
 }
@@ -108,6 +129,8 @@ DEEP_REPORTS = {
     "deep_edit.txt": ["edit", "g6", "deep.g6", "deep.txt"],
     "deep_cograph.txt": ["cograph", "g6", "deep.g6", "deep.txt"],
     "deep_quiet.txt": ["quiet", "g6", "deep.g6", "deep.txt"],
+    "deep_trivial.txt": ["trivial", "g6", "deep.g6", "deep.txt"],
+    "deep_threshold.txt": ["threshold", "g6", "deep.g6", "deep.txt"],
 }
 DEEPEST_REPORTS = {
     "deepest_tree.txt": ["tree", "g6", "deepest.g6"],
@@ -115,6 +138,12 @@ DEEPEST_REPORTS = {
     "deepest_cograph.txt": ["cograph", "g6", "deepest.g6", "deepest.txt"],
     "deepest_quiet.txt": ["quiet", "g6", "deepest.g6", "deepest.txt"],
     "deepest_dtree.txt": ["dtree", "deepest.d6"],
+    "deepest_trivial.txt": ["trivial", "g6", "deepest.g6", "deepest.txt"],
+    "deepest_threshold.txt": ["threshold", "g6", "deepest.g6", "deepest.txt"],
+}
+LARGEST_REPORTS = {
+    "largest_trivial.txt": ["trivial", "g6", "largest.g6", "largest.txt"],
+    "largest_threshold.txt": ["threshold", "g6", "largest.g6", "largest.txt"],
 }
 
 
@@ -141,14 +170,20 @@ SMALL = [
     ["edit", "g6", "two.g6", "random.txt"],
     ["quiet", "g6", "cograph.g6", "wrong.txt"],
     ["cograph", "g6", "cograph.g6", "open.txt"],
+    ["trivial", "g6", "two.g6", "random.txt"],
+    ["threshold", "g6", "bars.g6", "wrong.txt"],
+    ["threshold", "bars.g6", "bars.txt"],
+    ["check", "threshold", "g6", "bars.g6", "bars.txt", "rejected"],
+    ["check", "trivial", "g6", "bars.g6", "open.txt", "trivial_report.txt"],
     ["check", "edit", "g6", "random.g6", "wrong.txt", "edit.txt"],
     ["edges", "g6", "absent"],
 ]
 DEEP = [*DEEP_REPORTS.values(), *checks_of(DEEP_REPORTS), ["graph6", "g6", "deep.g6"], ["big", "1000"]]
 DEEPEST = [*DEEPEST_REPORTS.values(), *checks_of(DEEPEST_REPORTS), ["big", "4096"]]
+LARGEST = [*LARGEST_REPORTS.values(), *checks_of(LARGEST_REPORTS)]
 
 # What takes seconds, or a good part of one, is tried with few requests refused.
-SLOW = {"deep_quiet.txt": 40, "deepest_quiet.txt": 4}
+SLOW = {"deep_quiet.txt": 40, "deepest_quiet.txt": 4, "largest.g6": 10}
 
 
 class Case:
@@ -250,7 +285,7 @@ def starts(program, limit):
 
 
 def tasks_of(program, cases, quick):
-    small, deep, deepest = cases
+    small, deep, deepest, largest = cases
     limits = [it for it in spaces(quick) if starts(program, it)]
     print("the program starts within %.2f MB" % (limits[0] / MEGABYTE), flush=True)
     for at, case in small + deep:
@@ -258,10 +293,11 @@ def tasks_of(program, cases, quick):
         yield from failures(at, case, quick)
         for limit in limits:
             yield at, "space", limit, ()
-    stack = [(resource.RLIMIT_STACK, SHORT_STACK)]
-    for at, case in deepest:
-        yield at, "stack", SHORT_STACK, stack
-        yield from refusals(at, case, 20 if quick else 200, stack)
+    for group, least in ((deepest, SHORT_STACK), (largest, STACK_OF_LARGEST)):
+        stack = [(resource.RLIMIT_STACK, least)]
+        for at, case in group:
+            yield at, "stack", least, stack
+            yield from refusals(at, case, 20 if quick else 200, stack)
 
 
 def write_inputs(program):
@@ -270,7 +306,7 @@ def write_inputs(program):
         with open(os.path.join(program.where, name), "wb") as file:
             file.write(content)
     wrong = []
-    for name, words in {**REPORTS, **DEEP_REPORTS, **DEEPEST_REPORTS}.items():
+    for name, words in {**REPORTS, **DEEP_REPORTS, **DEEPEST_REPORTS, **LARGEST_REPORTS}.items():
         ended = program.run(words)
         with open(os.path.join(program.where, name), "wb") as file:
             file.write(ended.out)
@@ -297,7 +333,7 @@ def tell_stacks(program):
     which another request is refused."""
     write_inputs(program)
     for form in ("tree g6 %s.g6", "check tree g6 %s.g6 %s_tree.txt",
-                 "dtree %s.d6", "check dtree %s.d6 %s_dtree.txt"):
+                 "dtree %s.d6", "check dtree %s.d6 %s_dtree.txt", "threshold g6 %s.g6 %s.txt"):
         needs = []
         for name in ("deep", "deepest"):
             words = form.replace("%s", name).split()
@@ -312,7 +348,7 @@ def tell_stacks(program):
 def try_all(program, chosen):
     differences = write_inputs(program)
     cases, groups = [], []
-    for group in (SMALL, DEEP, DEEPEST):
+    for group in (SMALL, DEEP, DEEPEST, LARGEST):
         taken = [words for words in group if chosen.only in " ".join(words)]
         groups.append(list(enumerate((Case(program, words) for words in taken), len(cases))))
         cases += [case for _, case in groups[-1]]

@@ -4,11 +4,11 @@
     python3 bench/items.py --bin PROGRAM [--lines N] [--random N] [--seed N]
 
 First every script of at most N counted lines (4, if none is told) over the three edges of three
-names, with `undo`, `begin` and `commit`, that is a script, from the graph without edges, in the
-three modes; then N random ones (2,000) of up to 30 lines on up to six names, with vertices too.
-The model keeps a list of graphs, and the tree of each is found by trying all subsets for modules;
-an induced P4 that a line names is looked up in the graph. Then `check` reads each report. Ends
-with 1 if a line is wrong, or a report isn't accepted.
+names, with `undo`, `begin` and `commit`, that is a script, from the graph without edges, in each
+mode of a session; then N random ones (2,000) of up to 30 lines on up to six names, with vertices
+too. The model keeps a list of graphs, and the tree of each is found by trying all subsets for
+modules; an induced P4, C4 or 2K2 that a line names is looked up in the graph. Then `check` reads
+each report. Ends with 1 if a line is wrong, or a report isn't accepted.
 """
 
 import argparse
@@ -20,7 +20,16 @@ import sys
 import tempfile
 from functools import cache
 
-MODES = ("edit", "cograph", "quiet")
+# The bars of each mode: the induced subgraphs on four names that no graph of it has.
+MODES = {
+    "edit": (),
+    "cograph": ("p4",),
+    "quiet": ("p4",),
+    "trivial": ("p4", "c4"),
+    "threshold": ("p4", "c4", "2k2"),
+}
+# Which of the pairs ab, bc, cd, ad, ac and bd of a bar a, b, c, d are edges.
+SHAPES = {"p4": (1, 1, 1, 0, 0, 0), "c4": (1, 1, 1, 1, 0, 0), "2k2": (1, 0, 1, 0, 0, 0)}
 Graph = tuple[frozenset[int], frozenset[tuple[int, int]]]
 
 
@@ -79,14 +88,22 @@ def text(names: frozenset[int], edges: frozenset[tuple[int, int]]) -> str:
     return f"R({','.join(text(part, edges) for part in parts)};{','.join(pairs)})"
 
 
+def in_order(kind: str, a: int, b: int, c: int, d: int) -> bool:
+    """Whether the names of a bar stand in the one of its orders in which it is written."""
+    if kind == "p4":
+        return a < d
+    return a == min(a, b, c, d) and (b < d if kind == "c4" else c < d)
+
+
 @cache
-def paths(names: frozenset[int], edges: frozenset[tuple[int, int]]) -> frozenset[str]:
-    """The induced P4s of the graph, as they are written."""
+def bars(mode: str, names: frozenset[int], edges: frozenset[tuple[int, int]]) -> frozenset[str]:
+    """The bars of a mode that the graph has, as they are written."""
     found = set()
     for a, b, c, d in itertools.permutations(sorted(names), 4):
-        near = [pair(u, v) in edges for u, v in ((a, b), (b, c), (c, d), (a, c), (a, d), (b, d))]
-        if a < d and near == [True, True, True, False, False, False]:
-            found.add(f"{a} {b} {c} {d}")
+        near = tuple(pair(u, v) in edges for u, v in ((a, b), (b, c), (c, d), (a, d), (a, c), (b, d)))
+        for kind in MODES[mode]:
+            if near == SHAPES[kind] and in_order(kind, a, b, c, d):
+                found.add(f"{kind} {a} {b} {c} {d}")
     return frozenset(found)
 
 
@@ -147,10 +164,9 @@ def items(script: list[str]) -> list[list[list[str]] | None]:
 
 def expected(mode: str, graph: Graph, script: list[str]) -> list[set[str]]:
     """The lines of a report, each as the set of its right forms."""
-    bars = mode != "edit"
     lines = [{f"mdt {mode}"}]
-    if bars and paths(*graph):
-        return [*lines, {f"p4 {p}" for p in paths(*graph)}, {"end"}]
+    if bars(mode, *graph):
+        return [*lines, set(bars(mode, *graph)), {"end"}]
     if mode != "quiet":
         lines.append({f"t {text(*graph)}"})
     states = [graph]
@@ -168,8 +184,8 @@ def expected(mode: str, graph: Graph, script: list[str]) -> list[set[str]]:
                     refused = {lead + why}
                     break
                 here = after(here, edit)
-                if bars and paths(*here):
-                    refused = {f"{lead}p4 {p}" for p in paths(*here)}
+                if bars(mode, *here):
+                    refused = {lead + bar for bar in bars(mode, *here)}
                     break
             if refused is not None:
                 lines.append(refused)

@@ -9,11 +9,13 @@
     python3 bench/run.py --sizes         seconds and peak memory by command at two sizes, sparse and dense, in one table
     python3 bench/run.py --largest       the same over the largest graphs, of 16,384 vertices
     python3 bench/run.py --undo          sessions that are taken back, by edits and by undo, and one group of all edits
+    python3 bench/run.py --classes       sessions of trivial and threshold beside cograph, and the check of threshold
 
 Inputs are made with fixed seeds, in a temporary folder. Instructions are counted by valgrind's callgrind, peak
 memory is told by GNU time, each where it is there. Instructions hardly change from run to run, as times do.
 """
 import argparse
+import base64
 import os
 import random
 import re
@@ -45,21 +47,25 @@ def sparse(n, degree, seed):
     return rows_of(n, edges)
 
 
-def g6(rows):
-    n = len(rows)
+LETTERS = bytes.maketrans(b"ABCDEFGHIJKLMNOPQRSTUVWXYZabcdefghijklmnopqrstuvwxyz0123456789+/", bytes(range(63, 127)))
+
+
+def printed(n, bits):
+    """A number of vertices and bits, six a byte with 63 added: base64 with other letters."""
     head = [n + 63] if n <= 62 else [126, 63 + (n >> 12), 63 + (n >> 6 & 63), 63 + (n & 63)]
-    bits = "".join(format(rows[v], "b").zfill(v)[::-1] if v else "" for v in range(n))
-    bits += "0" * (-len(bits) % 6)
-    return bytes(head + [63 + int(bits[k:k + 6], 2) for k in range(0, len(bits), 6)]) + b"\n"
+    length = (len(bits) + 5) // 6
+    bits += "0" * (-len(bits) % 24)
+    sixes = base64.b64encode(int(bits or "0", 2).to_bytes(len(bits) // 8, "big")).translate(LETTERS)
+    return bytes(head) + sixes[:length] + b"\n"
+
+
+def g6(rows):
+    return printed(len(rows), "".join(format(row, "b").zfill(v)[::-1] if v else "" for v, row in enumerate(rows)))
 
 
 def d6(rows):
     """The digraph6 line of a directed graph, by the vertices that the arcs from each vertex enter."""
-    n = len(rows)
-    head = [n + 63] if n <= 62 else [126, 63 + (n >> 12), 63 + (n >> 6 & 63), 63 + (n & 63)]
-    bits = "".join(format(row, "b").zfill(n)[::-1] for row in rows)
-    bits += "0" * (-len(bits) % 6)
-    return b"&" + bytes(head + [63 + int(bits[k:k + 6], 2) for k in range(0, len(bits), 6)]) + b"\n"
+    return b"&" + printed(len(rows), "".join(format(row, "b").zfill(len(rows))[::-1] for row in rows))
 
 
 def dimacs(rows):
@@ -223,6 +229,67 @@ def twins(n, count, seed):
     return "".join(lines).encode()
 
 
+class ThresholdWalk:
+    """A random threshold graph under edits, as a list of its vertices: one that is joined is adjacent to all before it,
+    any other to none of them."""
+
+    def __init__(self, n, seed):
+        self.r = random.Random(seed)
+        self.order = self.r.sample(range(n), n)
+        self.joined = {v: self.r.random() < .5 for v in self.order}
+        self.gone = []
+
+    def rows(self):
+        return rows_of(len(self.order),
+                       [(u, v) for i, v in enumerate(self.order) if self.joined[v] for u in self.order[:i]])
+
+    def toggled(self):
+        """Two neighbours in the list, one of them joined, change places: just the edge between them comes or goes."""
+        while True:
+            i = self.r.randrange(1, len(self.order))
+            u, v = self.order[i - 1:i + 1]
+            if self.joined[u] != self.joined[v]:
+                self.order[i - 1:i + 1] = v, u
+                return "%se %d %d" % ("-" if self.joined[v] else "+", u, v)
+
+    def gone_or_back(self):
+        """A vertex goes, or one that went comes back at another place."""
+        if not self.gone:
+            self.gone.append(self.order.pop(self.r.randrange(len(self.order))))
+            return "-v %d" % self.gone[0]
+        x, place = self.gone.pop(), self.r.randrange(len(self.order) + 1)
+        self.joined[x] = self.r.random() < .5
+        beside = [v for i, v in enumerate(self.order) if (self.joined[x] if i < place else self.joined[v])]
+        self.order.insert(place, x)
+        return " ".join(map(str, ["+v", x, *sorted(beside)]))
+
+    def barred(self):
+        """An edit that isn't made, since the graph after it would have an induced P4: x, b, d and y stand in this order
+        in the list, b and y joined and d not, or the other way round, and the edge of x and y comes or goes."""
+        while True:
+            y = self.r.randrange(len(self.order))
+            kind = self.joined[self.order[y]]
+            b = self.last(self.last(y, not kind), kind)
+            if b > 0:
+                return "%se %d %d" % ("-" if kind else "+", self.order[self.r.randrange(b)], self.order[y])
+
+    def last(self, place, joined):
+        """The last place before one whose vertex is joined, or isn't; -1 where there is none."""
+        return next((i for i in range(place - 1, -1, -1) if self.joined[self.order[i]] == joined), -1)
+
+
+def threshold_session(n, count, every, seed):
+    """The rows of a threshold graph and a script of so many edits that leave one, a tenth of them of vertices; where
+    `every` is told, behind each one an edit that would make an induced P4."""
+    walk = ThresholdWalk(n, seed)
+    rows, lines = walk.rows(), []
+    for _ in range(count):
+        lines.append(walk.gone_or_back() if walk.r.random() < .1 else walk.toggled())
+        if every:
+            lines.append(walk.barred())
+    return rows, "".join(line + "\n" for line in lines).encode()
+
+
 INPUTS = {
     "none.g6": lambda: b"",
     "dense1024.g6": lambda: g6(dense(1024, 1)),
@@ -260,7 +327,7 @@ for order in (oldest_lowest, oldest_highest, in_any_order):
     for n in (1024, 2047, 4096):
         INPUTS["p4_%s_%d.g6" % (order.__name__, n)] = lambda n=n, order=order: g6(nested_p4(n, order(n)))
 
-MODES = ("tree", "dtree", "compare", "permute", "edit", "cograph", "quiet")
+MODES = ("tree", "dtree", "compare", "permute", "edit", "cograph", "quiet", "trivial", "threshold")
 
 CASES = [
     ("edges", "g6", "none.g6"),
@@ -302,6 +369,8 @@ CASES = [
     ("edit", "g6", "vertex.g6", "none.txt"),
     ("cograph", "g6", "vertex.g6", "none.txt"),
     ("quiet", "g6", "vertex.g6", "none.txt"),
+    ("trivial", "g6", "vertex.g6", "none.txt"),
+    ("threshold", "g6", "vertex.g6", "none.txt"),
 ] + [("dtree", name) for name in INPUTS if name.endswith(".d6")]
 
 
@@ -458,6 +527,41 @@ def measure_undo(binary):
                 print("| %s | %s | %.3f | %s | %.1f |" % (name, command, seconds, millions(count), peak), flush=True)
 
 
+# How many times the instructions of `cograph` a session on a class may take where no edit is barred, and how many times
+# those of `threshold` its check.
+CLASS_BOUND, CHECK_BOUND = 1.4, 1.0
+
+
+def measure_classes(binary):
+    """Sessions of 20,000 edits from a threshold graph on 1,000 vertices that leave one each, and the same with as many
+    edits among them that each mode refuses. Answers 1 where the first session is over the bounds."""
+    print("| session | command | seconds | million instructions | peak MB | ratio |\n|---|---|---|---|---|---|")
+    within = True
+    with tempfile.TemporaryDirectory() as where:
+        for session, every in (("no edit is barred", False), ("every other edit is barred", True)):
+            rows, script = threshold_session(1000, 20000, every, 29)
+            for name, text in (("graph", g6(rows)), ("script", script)):
+                with open(os.path.join(where, name), "wb") as file:
+                    file.write(text)
+            counts = {}
+            for words in (["cograph"], ["trivial"], ["threshold"], ["check", "threshold"]):
+                words = [*words, "g6", "graph", "script"]
+                if words[0] == "check":
+                    with open(os.path.join(where, "report"), "wb") as file:
+                        subprocess.run([binary, *words[1:]], cwd=where, stdout=file, check=True)
+                    words.append("report")
+                beside, bound = ("threshold", CHECK_BOUND) if words[0] == "check" else ("cograph", CLASS_BOUND)
+                seconds, count, peak = measure(binary, words, where)
+                counts[words[0]] = count
+                ratio = count / max(counts[beside], 1)
+                within = within and (every or ratio <= bound)
+                print("| %s | `%s` | %.3f | %s | %.1f | %.2f of `%s` |" % (
+                    session, " ".join(words[:-4 if words[0] == "check" else -3]), seconds, millions(count), peak, ratio,
+                    beside), flush=True)
+    print("within the bounds" if within else "over the bounds")
+    return 0 if within else 1
+
+
 def timed(binary, words, where):
     """Seconds of processor time and peak megabytes of one run, as text; a report may be too long for a check."""
     with subprocess.Popen(["time", "-f", "%M", binary, *words], cwd=where, stdout=subprocess.DEVNULL,
@@ -487,6 +591,7 @@ def main():
     options.add_argument("--sizes", action="store_true")
     options.add_argument("--largest", action="store_true")
     options.add_argument("--undo", action="store_true")
+    options.add_argument("--classes", action="store_true")
     chosen = options.parse_args()
     binary = os.path.abspath(chosen.bin or build())
     peer = os.path.abspath(chosen.peer) if chosen.peer else None
@@ -498,6 +603,8 @@ def main():
         return measure_largest(binary)
     if chosen.undo:
         return measure_undo(binary)
+    if chosen.classes:
+        return measure_classes(binary)
     print("| run | seconds | million instructions | peak MB |" + (" the other's | ratio | its peak MB |" if peer else ""))
     print("|---|---|---|---|" + ("---|---|---|" if peer else ""))
     with tempfile.TemporaryDirectory() as where:
@@ -512,4 +619,4 @@ def main():
 
 
 if __name__ == "__main__":
-    main()
+    sys.exit(main())

@@ -76,7 +76,7 @@ def add_verify(commands) -> None:
     parser.add_argument("graph", help="the graph file: graph6, sparse6 or DIMACS, told apart by its content; digraph6 "
                                       "in the mode dtree")
     parser.add_argument("files", nargs="+", metavar="[SCRIPT] REPORT",
-                        help="the script, in the modes edit, cograph and quiet, and the report")
+                        help="the script, in the modes %s, and the report" % ", ".join(verify.SESSIONS))
     parser.set_defaults(run=run_verify, parser=parser)
 
 

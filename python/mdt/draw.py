@@ -10,9 +10,9 @@ from . import inputs
 from .diagrams import arcs_svg, graph_svg, orders_svg
 from .pages import all_page, session_page
 from .pictures import tree_dot, tree_svg
-from .reports import Line, read_report
+from .reports import BARS, Line, read_report
 from .svg import Name
-from .trees import parse_tree
+from .trees import Node, parse_tree
 
 HELP = """Draws the first tree of a report as SVG. A leaf stands by its vertex, in the card of its parallel (P) or
 series (S) parent, or in the quotient that is drawn in its prime (R) parent; an order node (O), in a report of dtree,
@@ -20,6 +20,8 @@ shows its children in their order. --all and --session write pages of HTML."""
 
 # The most frames of a session: each is a whole picture.
 MOST_FRAMES = 2000
+# The trees of the graphs that are bars; `bar_tree` puts the vertices in.
+BAR_TREES = {"p4": "R(%d,%d,%d,%d;0-1,1-2,2-3)", "c4": "S(P(%d,%d),P(%d,%d))", "2k2": "P(S(%d,%d),S(%d,%d))"}
 
 
 class DrawError(ValueError):
@@ -44,7 +46,7 @@ def add_draw(commands) -> None:
     parser.add_argument("--names", metavar="FILE", help="names of vertices, one a line: the number, a space, the name")
     parser.add_argument("--mark", type=numbers, default=set(), metavar="V,..", help="vertices to mark")
     parser.add_argument("--mark-line", type=place, metavar="REPORT:N",
-                        help="mark the vertices that this line names: those of a P4 or a forcing chain")
+                        help="mark the vertices that this line names: those of a P4, C4, 2K2 or forcing chain")
     parser.add_argument("--no-legend", dest="legend", action="store_false", help="leave out the legend")
     parser.set_defaults(run=run_draw)
 
@@ -147,9 +149,9 @@ def way_to_draw(options: argparse.Namespace, name: Name, marked: set[int]) \
 
 def write_session(options: argparse.Namespace, lines: Iterator[Line], name: Name, marked: set[int]) -> None:
     """Writes the page of a session: the first tree, then one frame for each item, of the tree as it stands then; the
-    P4 of a refused edit is marked in it."""
+    P4, C4 or 2K2 of a refused edit is marked in it."""
     head = next(lines)
-    if head.mode not in ("edit", "cograph"):
+    if head.mode not in BARS or head.mode == "quiet":
         raise DrawError("a report of %s has no tree for each edit" % head.mode)
     items: list[inputs.Item] = []
     if options.script:
@@ -176,19 +178,25 @@ def session_frames(frames: list[Line], items: list[inputs.Item], name: Name, mar
     for count, line in enumerate(frames):
         item = item_text(items[count - 1], name) + ": " if 0 < count <= len(items) else ""
         tree = line.tree if line.has_tree else tree
-        if line.what == "p4":
-            svg = graph_svg(parse_tree("R(%d,%d,%d,%d;0-1,1-2,2-3)" % tuple(line.vertices)), name, marked)
+        if line.what in BAR_TREES:
+            svg = graph_svg(bar_tree(line), name, marked)
         elif line.has_tree or line.vertices or not svg:
             svg = tree_svg(tree, name, marked | named_by(line), legend)
         yield "line %d: %s%s" % (line.number, item, answer(line, name)), svg
+
+
+def bar_tree(line: Line) -> Node:
+    """The tree of the four vertices of a bar: those of a cycle that aren't adjacent stand together."""
+    a, b, c, d = line.vertices
+    return parse_tree(BAR_TREES[line.what] % ((a, c, b, d) if line.what == "c4" else (a, b, c, d)))
 
 
 def answer(line: Line, name: Name) -> str:
     """What a line of a session tells, but for its tree."""
     if line.what in ("tree", "applied"):
         return "the first graph" if line.what == "tree" else "ok"
-    if line.what == "p4":
-        words = ["p4"]
+    if line.what in BAR_TREES:
+        words = [line.what]
     else:
         words = ["no", line.reason] if line.edit is None else ["no", "edit", str(line.edit), line.reason]
     return " ".join(words + list(map(name, line.vertices)))

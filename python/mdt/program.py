@@ -15,7 +15,7 @@ from dataclasses import dataclass
 from typing import Any, Hashable, Iterable, Iterator, Optional, Union
 
 from .graphs import NumberedGraph, numbered, numbered_digraph
-from .reports import Line, read_report
+from .reports import BARS, Line, read_report
 from .trees import DirectedNode, Node
 
 STATUSES = {2: "Usage", 4: "ReadFault", 5: "WriteFault", 6: "Memory", 7: "TooLong"}
@@ -160,13 +160,13 @@ def check(mode: str, form: Optional[str], graph: str, *files: str) -> None:
 class Session:
     """A graph under edits. Within `with` the edits are gathered; at its end the program runs once over all of them.
     Then `lines` are the lines of the report without head and end, `answers` those of the edits, one each, and `tree`
-    is the tree of the last graph. Where a session on cographs begins with a graph that is none, the only line tells a
-    P4 of it, there are no answers, and `tree` is None. A name that is no vertex may stand in an edit: the answer
-    refuses it."""
+    is the tree of the last graph. Where the first graph isn't one of those that the mode keeps to, the only line tells
+    a P4, C4 or 2K2 of it, there are no answers, and `tree` is None. A name that is no vertex may stand in an edit: the
+    answer refuses it."""
 
     def __init__(self, graph: Any, mode: str, vertices: Optional[Iterable[Hashable]]):
-        if mode not in ("edit", "cograph", "quiet"):
-            raise ValueError("a session has the mode edit, cograph or quiet, not %r" % mode)
+        if mode not in BARS:
+            raise ValueError("a session has one of the modes %s, not %r" % (", ".join(BARS), mode))
         self._mode = mode
         self._graph = numbered(graph, vertices)
         self._names = list(self._graph.vertices)
@@ -256,8 +256,10 @@ def session(graph: Any, mode: str = "edit", vertices: Optional[Iterable[Hashable
         print(s.answers, s.tree)
 
     The modes: `edit` applies each edit that fits the graph and tells the tree after it; `cograph` refuses those that
-    would leave the cographs, with a P4; `quiet` does so too, and tells the last tree alone. A group is applied whole or
-    not at all; `undo` takes back the last edit or group that was applied. At most 200,000 edits, undos and groups in
-    all; names and numbers of vertices below 16,384. ValueError for another mode and as in `tree`; MdtError at the end
-    of the context, where the program gives no answer."""
+    would leave the cographs, with a P4; `quiet` does so too, and tells the last tree alone; `trivial` refuses those
+    that would leave the trivially perfect graphs, with a P4 or a C4, `threshold` those that would leave the threshold
+    graphs, with a P4, a C4 or a 2K2. A group is applied whole or not at all; `undo` takes back the last edit or group
+    that was applied. At most 200,000 edits, undos and groups in all; names and numbers of vertices below 16,384.
+    ValueError for another mode and as in `tree`; MdtError at the end of the context, where the program gives no
+    answer."""
     return Session(graph, mode, vertices)

@@ -12,19 +12,26 @@ from typing import Any, Callable, Iterable, Iterator, Optional, Union
 
 from .trees import Node, ReportError, parse_tree
 
+# The bars of each mode of a session: what no graph of it has on four of its vertices, an induced path (p4), an induced
+# cycle (c4), or two edges with none between them (2k2).
+BARS = {
+    "edit": (),
+    "cograph": ("p4",),
+    "quiet": ("p4",),
+    "trivial": ("p4", "c4"),
+    "threshold": ("p4", "c4", "2k2"),
+}
 # What a line of each mode may be, beside the head and the end.
 MODES = {
     "tree": {"tree"},
     "dtree": {"tree"},
     "compare": {"orientation", "chain"},
     "permute": {"orders", "chain"},
-    "edit": {"tree", "applied", "refused"},
-    "cograph": {"tree", "applied", "refused", "p4"},
-    "quiet": {"tree", "applied", "refused", "p4"},
+    **{mode: {"tree", "applied", "refused", *bars} for mode, bars in BARS.items()},
 }
 OF_GRAPHS = ("tree", "dtree", "compare", "permute")
-# How many vertices stand with each reason against an edit.
-REASONS = {"same": 0, "vertex": 1, "taken": 1, "edge-there": 0, "edge-absent": 0, "p4": 4}
+# How many vertices stand with each reason against an edit, and with each bar.
+REASONS = {"same": 0, "vertex": 1, "taken": 1, "edge-there": 0, "edge-absent": 0, "p4": 4, "c4": 4, "2k2": 4}
 # The most edits that a group can have.
 _EDITS = 200_000
 # What a line may tell beside its tree.
@@ -39,15 +46,17 @@ Source = Union[str, os.PathLike, Iterable[Union[str, bytes]]]
 class Line:
     """A line of a report. `number` counts from 1; `what` is one of
 
-    head         `mode` is the mode: tree, dtree, compare, permute, edit, cograph, quiet
+    head         `mode` is the mode: tree, dtree, compare, permute, edit, cograph, quiet, trivial, threshold
     tree         `tree` is the tree of a graph, or in a report of dtree of a directed graph; None for that without
                  vertices
     applied      an edit or a group was applied, or the last of them taken back; `tree` is the tree after it, where the
                  mode tells one (`has_tree`)
-    refused      an edit was refused; `reason` is one of same, vertex, taken, edge-there, edge-absent, p4; with it
-                 `vertices`: the vertex, or the four of the P4 in the order of the path; where it is an edit of a group,
+    refused      an edit was refused; `reason` is one of same, vertex, taken, edge-there, edge-absent, or a bar of the
+                 graph after it: p4, c4, 2k2; with it `vertices`: the vertex, or the four of the bar, in the order of
+                 the path or the cycle, or those of one edge and then of the other; where it is an edit of a group,
                  `edit` is its number in that, from 1. Or nothing was there to undo: the reason is undo
-    p4           the first graph of a session on cographs has this P4, `vertices`
+    p4, c4, 2k2  the first graph of a session on cographs, on trivially perfect graphs or on threshold graphs has this
+                 bar, `vertices`
     orientation  the least-edge orientation, `arcs`: pairs (tail, head)
     orders       two orders that realise the graph, `orders`
     chain        a forcing chain, `arcs`, of the `graph` or of the `complement`: `of` says which
@@ -144,9 +153,14 @@ def parse_line(text: str, number: int, mode: Optional[str]) -> Line:
     if text == "end":
         return Line(number, "end")
     line = _answer(first, rest, number, mode)
-    if line is None or line.what not in MODES[mode] or (line.reason == "p4" and mode == "edit"):
+    if line is None or line.what not in MODES[mode] or not _may_be_against(line.reason, mode):
         raise ReportError("a report of %s has no line %r%s" % (mode, text[:40], _carriage(text)))
     return line
+
+
+def _may_be_against(reason: Optional[str], mode: str) -> bool:
+    """Whether a line of the mode may tell this of an edit: a bar is one of the mode's own."""
+    return REASONS.get(reason) != 4 or reason in BARS[mode]
 
 
 def _carriage(text: str) -> str:
@@ -159,8 +173,8 @@ def _answer(first: str, rest: list[str], number: int, mode: str) -> Optional[Lin
         line = Line(number, "tree" if first == "t" else "applied")
         if rest:
             line.tree, line.has_tree = parse_tree(rest[0], directed=mode == "dtree"), True
-    elif first == "p4" and len(rest) == 4:
-        line = Line(number, "p4")
+    elif first in BARS["threshold"] and len(rest) == 4:
+        line = Line(number, first)
         line.vertices = _names(rest)
     elif first == "yes" and mode == "compare":
         line = Line(number, "orientation")

@@ -15,6 +15,7 @@ from itertools import combinations, permutations
 from typing import Callable, Iterator, Optional
 
 from .inputs import NAMES, ORIENTED, Edit, Graph, Item
+from .reports import BARS
 from .trees import Node, ReportError, parse_tree
 
 Arc = tuple[int, int]
@@ -132,15 +133,21 @@ def is_directed_node_of(graph: Graph, node: Node, parts: list[set[int]]) -> bool
     return pairs == set(node.joined()) and all(child.kind != node.kind for child in node.children)
 
 
-# Induced paths on four vertices
+# Induced subgraphs on four vertices
 
-def is_p4(graph: Graph, names: list[int]) -> bool:
-    """Whether four vertices, in this order, are an induced path, written from its smaller end."""
+def is_bar(graph: Graph, kind: str, names: list[int]) -> bool:
+    """Whether four vertices, in this order, are a bar of this kind: an induced path, written from its smaller end; an
+    induced cycle, from its least vertex on towards the smaller neighbour of that; or two edges with none between them,
+    each from its smaller end, first the one with the least vertex."""
     if len(set(names)) != 4 or not set(names) <= set(graph):
         return False
     a, b, c, d = names
     edges = {(u, v) for u, v in combinations(names, 2) if v in graph[u]}
-    return edges == {(a, b), (b, c), (c, d)} and a < d
+    if kind == "p4":
+        return edges == {(a, b), (b, c), (c, d)} and a < d
+    if kind == "c4":
+        return edges == {(a, b), (b, c), (c, d), (a, d)} and a == min(names) and b < d
+    return edges == {(a, b), (c, d)} and a < b and c < d and a < c
 
 
 def has_p4(graph: Graph) -> bool:
@@ -151,6 +158,33 @@ def has_p4(graph: Graph) -> bool:
             if any(right - graph[a] for a in graph[b] - graph[c] - {c}):
                 return True
     return False
+
+
+def has_c4(graph: Graph) -> bool:
+    """Whether two vertices that aren't adjacent have two common neighbours that aren't either."""
+    for a, c in combinations(graph, 2):
+        common = graph[a] & graph[c]
+        if c not in graph[a] and any(common - graph[b] - {b} for b in common):
+            return True
+    return False
+
+
+def has_2k2(graph: Graph) -> bool:
+    """Whether some edge has another one among the vertices that neither of its ends is adjacent to."""
+    for a in graph:
+        for b in graph[a]:
+            others = set(graph) - graph[a] - graph[b]
+            if any(graph[c] & others for c in others):
+                return True
+    return False
+
+
+HAS: dict[str, Callable[[Graph], bool]] = {"p4": has_p4, "c4": has_c4, "2k2": has_2k2}
+
+
+def has_bar(graph: Graph, mode: str) -> bool:
+    """Whether a graph has a bar of a mode of a session."""
+    return any(HAS[kind](graph) for kind in BARS[mode])
 
 
 # Orientations and orders
@@ -284,12 +318,14 @@ def names_of(words: list[str]) -> Optional[list[int]]:
     return [int(word) for word in words] if all(_NAME.fullmatch(word) for word in words) else None
 
 
-def p4_line(word: str, graph: Graph) -> Judge:
-    """Judges the line of a word and an induced P4 of a graph."""
+def bar_line(lead: str, mode: str, graph: Graph) -> Judge:
+    """Judges the line that begins so and goes on with a bar of the mode in a graph."""
 
     def judge(text: str) -> bool:
-        names = names_of(text[len(word):].split(" ")[1:])
-        return text.startswith(word + " ") and names is not None and len(names) == 4 and is_p4(graph, names)
+        kind, *words = text[len(lead):].split(" ")
+        names = names_of(words)
+        return (text.startswith(lead) and kind in BARS[mode] and names is not None and len(names) == 4
+                and is_bar(graph, kind, names))
 
     return judge
 
@@ -342,20 +378,20 @@ def tried(mode: str, graph: Graph, edits: list[Edit], is_group: bool) -> tuple[O
     """The graph after these edits, one after the other, None where one is refused; and the judge of their line, which
     tells the number of the refused edit in a group."""
     for number, edit in enumerate(edits, 1):
-        word = "no edit %d" % number if is_group else "no"
+        lead = "no edit %d " % number if is_group else "no "
         against = reason(graph, edit)
         if against:
-            return None, equals(word + " " + against)
+            return None, equals(lead + against)
         graph = after(graph, edit)
-        if mode != "edit" and has_p4(graph):
-            return None, p4_line(word + " p4", graph)
+        if has_bar(graph, mode):
+            return None, bar_line(lead, mode, graph)
     return graph, done_line(mode, graph)
 
 
 def session_lines(mode: str, graph: Graph, script: list[Item]) -> Iterator[Judge]:
     """The lines of a session between head and end: one for each item, at the graph that those before it leave."""
-    if mode != "edit" and has_p4(graph):
-        yield p4_line("p4", graph)
+    if has_bar(graph, mode):
+        yield bar_line("", mode, graph)
         return
     if mode != "quiet":
         yield tree_line("t", graph)
@@ -382,7 +418,7 @@ LINES: dict[str, Callable[[Graph], Judge]] = {
     "compare": compare_line,
     "permute": permute_line,
 }
-SESSIONS = ("edit", "cograph", "quiet")
+SESSIONS = tuple(BARS)
 
 
 def limit_of(mode: str) -> int:

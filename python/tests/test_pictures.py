@@ -215,6 +215,16 @@ class Command(unittest.TestCase):
         self.assertEqual(captions, ["line 2: the first graph", "line 3: +v 2 0 1: ok", "line 4: +v 3 2: no p4 0 1 2 3",
                                     "line 5: begin; -v 1; commit: ok"])
         self.assertEqual(page.count(MARKED), 4)
+        session = self.file("threshold", "mdt threshold\nt S(0,1)\nok P(S(0,1),2)\nno edit 2 2k2 0 1 2 3\nend\n")
+        page = self.draw("--session", "--script", script, session)[1]
+        self.assertIn("line 4: +v 3 2: no edit 2 2k2 0 1 2 3", page)
+        self.assertEqual(page.count(MARKED), 4)
+        for mode, line, edges in [("cograph", "p4 2 0 3 1", 3), ("trivial", "c4 0 2 1 3", 4),
+                                  ("threshold", "2k2 0 2 1 3", 2)]:
+            page = self.draw("--session", self.file("barred", "mdt %s\n%s\nend\n" % (mode, line)))[1]
+            self.assertIn("<figcaption>line 2: %s</figcaption>" % line, page)
+            drawn = re.search(' d="(M[^"]*)"', page).group(1)
+            self.assertEqual((drawn.count("M"), page.count("<circle") >= 4), (edges, True), page)
         self.assertNotIn("http://", page.replace("http://www.w3.org/2000/svg", ""))
 
     @unittest.skipUnless(BROWSER, "no browser chromium")

@@ -175,6 +175,27 @@ class Answers(unittest.TestCase):
                          [("refused", None, "undo"), ("refused", 2, "edge-there"), ("applied", None, None),
                           ("applied", None, None)])
         self.assertEqual(str(session.tree), "S(ann,bob)")
+        with mdt.session(NAMED[:2], "threshold") as session:
+            session.add_vertex("dan")
+            session.add_edge("ann", "dan")
+            session.add_vertex("eve", ["dan"])
+            with session.group():
+                session.add_vertex("eve", ["ann", "cem"])
+        self.assertEqual([(line.what, line.edit, line.reason) for line in session.answers],
+                         [("applied", None, None), ("refused", None, "p4"), ("refused", None, "2k2"),
+                          ("refused", 1, "c4")])
+        self.assertEqual(session.answers[3].vertices, ["ann", "bob", "cem", "eve"])
+        self.assertEqual(str(session.tree), "P(S(P(ann,cem),bob),dan)")
+        with mdt.session([("ann", "bob"), ("cem", "dan")], "trivial") as session:
+            session.add_edge("ann", "cem")
+        self.assertEqual((session.answers[0].reason, str(session.tree)), ("p4", "P(S(ann,bob),S(cem,dan))"))
+        for graph, mode, what in [([("ann", "bob"), ("cem", "dan")], "threshold", "2k2"),
+                                  ([(i, (i + 1) % 4) for i in range(4)], "trivial", "c4")]:
+            with mdt.session(graph, mode) as session:
+                session.undo()
+            self.assertEqual([line.what for line in session.lines], [what])
+            self.assertEqual((sorted(session.lines[0].vertices), session.tree),
+                             (sorted({v for pair in graph for v in pair}), None))
         with mdt.session([], "quiet") as session:
             session.add_vertex("x")
         self.assertEqual(str(session.tree), "x")
@@ -258,8 +279,12 @@ class Reports(unittest.TestCase):
         graph = str(EXAMPLES / "cycle5.g6")
         report = self.file("report", program.run(["permute", "g6", graph]))
         cut = self.file("cut", b"mdt tree\nt 0\n")
+        session = [str(EXAMPLES / "cograph5.g6"), self.file("script", b"-e 3 4\n+v 5 0 1\n")]
+        barred = self.file("barred", program.run(["trivial", "g6", *session]))
         for words, status, out in [
             (["verify", "permute", graph, report], 0, "accepted\n"),
+            (["verify", "trivial", *session, barred], 0, "accepted\n"),
+            (["verify", "threshold", *session, barred], 1, "rejected line 1\n"),
             (["verify", "tree", graph, report], 1, "rejected line 1\n"),
             (["verify", "edit", graph, report], 2, ""),
             (["report", report], 0, "chain of the graph 1\nlines 3\nlines: chain 1\nlines: end 1\nlines: head 1\n"),

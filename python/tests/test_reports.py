@@ -28,6 +28,16 @@ class Lines(unittest.TestCase):
         self.assertFalse(quiet[1].has_tree)
         self.assertTrue(quiet[2].has_tree and quiet[2].tree is None)
         self.assertEqual(lines_of("mdt quiet\np4 0 1 2 3\nend\n")[1].vertices, [0, 1, 2, 3])
+        threshold = lines_of("mdt threshold\nt 0\nno p4 2 1 0 3\nno 2k2 0 1 3 4\nno c4 0 1 2 4\n"
+                             "no edit 2 2k2 0 1 3 4\nok P(0,1)\nend\n")
+        self.assertEqual([(line.edit, line.reason, line.vertices) for line in threshold[2:6]],
+                         [(None, "p4", [2, 1, 0, 3]), (None, "2k2", [0, 1, 3, 4]), (None, "c4", [0, 1, 2, 4]),
+                          (2, "2k2", [0, 1, 3, 4])])
+        self.assertEqual(str(threshold[6].tree), "P(0,1)")
+        for mode, kind in [("trivial", "p4"), ("trivial", "c4"), ("threshold", "p4"), ("threshold", "c4"),
+                           ("threshold", "2k2")]:
+            barred = lines_of("mdt %s\n%s 3 1 2 0\nend\n" % (mode, kind))
+            self.assertEqual((barred[0].mode, barred[1].what, barred[1].vertices), (mode, kind, [3, 1, 2, 0]))
         compare = lines_of("mdt compare\nyes 0>1 2>1\nno 0>1 4>0 1>0\nyes\nend\n")
         self.assertEqual(compare[1].arcs, [(0, 1), (2, 1)])
         self.assertEqual((compare[2].what, compare[2].of), ("chain", "graph"))
@@ -54,6 +64,10 @@ class Lines(unittest.TestCase):
             ("mdt edit\nno edit 1\nend\n", 2), ("mdt edit\nno edit 200001 same\nend\n", 2),
             ("mdt tree\nt O(0,1)\nend\n", 2), ("mdt dtree\nt R(0,1,2;0-1)\nend\n", 2), ("mdt dtree\nok 0\nend\n", 2),
             ("mdt edit\nno edit 1 undo\nend\n", 2), ("mdt edit\nno edit 1 p4 0 1 2 3\nend\n", 2),
+            ("mdt cograph\nno c4 0 1 2 3\nend\n", 2), ("mdt quiet\nc4 0 1 2 3\nend\n", 2),
+            ("mdt trivial\nno 2k2 0 1 2 3\nend\n", 2), ("mdt trivial\n2k2 0 1 2 3\nend\n", 2),
+            ("mdt trivial\nok\nend\n", 2), ("mdt threshold\nc4 0 1 2\nend\n", 2),
+            ("mdt threshold\nno edit 1 c4 0 1 2\nend\n", 2), ("mdt threshold\nno c4\nend\n", 2),
         ]:
             with self.assertRaises(ReportError, msg=text) as caught:
                 lines_of(text)
@@ -76,6 +90,8 @@ class Lines(unittest.TestCase):
         counts = count(lines_of("mdt dtree\nt R(0,1,2;0>1,1>2,2>0)\nt O(1,0)\nend\n"))
         self.assertEqual((counts["trees of prime graphs"], counts["trees of directed cographs"]), (1, 1))
         self.assertEqual((counts["trees of cographs"], counts["nodes: order"]), (0, 1))
+        counts = count(lines_of("mdt threshold\nt 0\nno 2k2 0 1 2 3\nno edit 1 2k2 0 1 2 3\nno c4 0 1 2 3\nend\n"))
+        self.assertEqual((counts["refused: 2k2"], counts["refused: c4"], counts["refused: p4"]), (2, 1, 0))
 
     def test_json(self):
         line = lines_of("mdt tree\nt R(0,P(1,4),2,3;0-1,1-2,2-3)\nend\n")[1]

@@ -11,7 +11,7 @@ from mdt import DirectedNode, MdtError, Node, program
 from mdt.graphs import numbered, numbered_digraph
 from mdt.inputs import InputFault, read_digraph6, read_graphs, read_script
 from mdt.reports import MODES
-from mdt.verify import SESSIONS, first_wrong_line, is_tree_of, limit_of
+from mdt.verify import SESSIONS, first_wrong_line, has_bar, is_bar, is_tree_of, limit_of
 
 ALTERED = 12  # how many altered reports are tried of each report
 
@@ -48,6 +48,34 @@ def random_cograph(r, n):
         graph[u].add(v)
         graph[v].add(u)
     return graph
+
+
+def random_trivial(r, n):
+    """A trivially perfect graph: each vertex of a rooted forest is adjacent to those above it."""
+    names = r.sample(range(n), n)
+    above = {}
+    for place, v in enumerate(names):
+        parent = r.choice(names[:place] + [None])
+        above[v] = set() if parent is None else above[parent] | {parent}
+    return {v: above[v] | {u for u in above if v in above[u]} for v in range(n)}
+
+
+def random_threshold(r, n):
+    """A threshold graph: each vertex is adjacent to all before it, or to none of them."""
+    graph = {}
+    for v in r.sample(range(n), n):
+        graph[v] = set(graph) if r.random() < 0.5 else set()
+        for u in graph[v]:
+            graph[u].add(v)
+    return graph
+
+
+def all_graphs(n):
+    """Each graph on n vertices."""
+    pairs = list(combinations(range(n), 2))
+    for number in range(2 ** len(pairs)):
+        edges = {pair for place, pair in enumerate(pairs) if number >> place & 1}
+        yield {v: {u for u in range(n) if (u, v) in edges or (v, u) in edges} for v in range(n)}
 
 
 def random_digraph(r, n):
@@ -118,6 +146,35 @@ def altered(r, report):
         text[r.randrange(len(text))] = r.choice(b"0123456789,();-> PSOR\n")
         lines[at] = bytes(text)
     return b"".join(lines)
+
+
+def is_trivially_perfect(graph):
+    """Whether each component has a vertex that is adjacent to all others of it, and the rest of it is so again."""
+    left, waiting = set(graph), [set(graph)]
+    while waiting:
+        left = waiting.pop()
+        if not left:
+            continue
+        part, reached = set(), {min(left)}
+        while reached != part:
+            part = reached
+            reached = part.union(*(graph[v] & left for v in part))
+        centre = [v for v in part if part <= graph[v] | {v}]
+        if not centre:
+            return False
+        waiting += [left - part, part - {centre[0]}]
+    return True
+
+
+def is_threshold(graph):
+    """Whether vertices that are adjacent to all left, or to none of them, can be taken off one by one."""
+    left = set(graph)
+    while left:
+        off = [v for v in left if graph[v] & left in (set(), left - {v})]
+        if not off:
+            return False
+        left.discard(off[0])
+    return True
 
 
 def is_module(graph, some):
@@ -218,10 +275,51 @@ class Definitions(unittest.TestCase):
              ["t P(S(P(0,2),1),3)", "no edit 5 p4 0 1 2 3"], None),
             ("cograph", b"Cg\n", b"begin\n+e 2 3\n-e 2 3\ncommit\n", ["t P(S(P(0,2),1),3)", "ok P(S(P(0,2),1),3)"], 3),
             ("quiet", b"Cg\n", b"begin\n+e 1 3\n+e 2 3\ncommit\nundo\n", ["ok", "ok", "t P(S(P(0,2),1),3)"], None),
+            ("trivial", b"Cl\n", b"", ["c4 0 1 2 3"], None), ("trivial", b"Cl\n", b"-v 0\n", ["c4 0 1 2 3"], None),
+            ("trivial", b"Cl\n", b"", ["c4 0 3 2 1"], 2), ("trivial", b"Cl\n", b"", ["c4 1 2 3 0"], 2),
+            ("trivial", b"Cl\n", b"", ["p4 0 1 2 3"], 2), ("trivial", b"Cl\n", b"", ["t S(P(0,2),P(1,3))"], 2),
+            ("trivial", b"Ch\n", b"", ["p4 0 1 2 3"], None), ("trivial", b"Ch\n", b"", ["p4 3 2 1 0"], 2),
+            ("trivial", b"C`\n", b"", ["t P(S(0,1),S(2,3))"], None), ("trivial", b"Cd\n", b"", ["p4 0 1 2 3"], 2),
+            ("trivial", b"C`\n", b"", ["2k2 0 1 2 3"], 2), ("threshold", b"C`\n", b"", ["t P(S(0,1),S(2,3))"], 2),
+            ("threshold", b"C`\n", b"", ["2k2 0 1 2 3"], None), ("threshold", b"C`\n", b"", ["2k2 1 0 2 3"], 2),
+            ("threshold", b"C`\n", b"", ["2k2 0 1 3 2"], 2), ("threshold", b"C`\n", b"", ["2k2 2 3 0 1"], 2),
+            ("threshold", b"Cl\n", b"", ["c4 0 1 2 3"], None), ("threshold", b"?\n", b"", ["t empty"], None),
+            ("threshold", b"?\n", b"+v 0\n", ["t empty", "ok 0"], None),
+            ("trivial", b"Bg\n", b"begin\n+v 3\n+v 4 0 2\n+e 0 2\ncommit\n",
+             ["t S(P(0,2),1)", "no edit 2 c4 0 1 2 4"], None),
+            ("threshold", b"Bg\n", b"begin\ncommit\nundo\nundo\n",
+             ["t S(P(0,2),1)", "ok S(P(0,2),1)", "ok S(P(0,2),1)", "no undo"], None),
         ]:
             report = "".join(line + "\n" for line in ["mdt " + mode, *lines, "end"]).encode()
             self.assertEqual(first_wrong_line(mode, read_graphs(graph), read_script(script), report), wrong,
                              (mode, graph, lines))
+        script = b"+v 3\n+e 0 3\n+v 4 3\n+v 4 0 2\n+v 4 0 1 2 3\n"
+        rows = ["t S(P(0,2),1)", "ok P(S(P(0,2),1),3)", "no p4 2 1 0 3", "no 2k2 0 1 3 4", "no c4 0 1 2 4",
+                "ok S(P(S(P(0,2),1),3),4)"]
+        trivial = [*rows[:3], "ok P(S(P(0,2),1),S(3,4))", "no taken 4", "no taken 4"]
+        group = b"begin\n+v 3\n+v 4 3\ncommit\nundo\nbegin\n+v 3\n+e 1 3\ncommit\nundo\nbegin\n+e 0 2\n+e 0 1\ncommit\n"
+        refused = ["t S(P(0,2),1)", "no edit 2 2k2 0 1 3 4", "no undo", "ok S(P(0,2,3),1)", "ok S(P(0,2),1)",
+                   "no edit 2 edge-there"]
+        for mode, script, lines, wrong in [
+            ("threshold", script, rows, None),
+            ("threshold", script, [*rows[:3], "no 2k2 1 2 3 4", *rows[4:]], None),
+            ("threshold", script, [*rows[:2], "no p4 3 0 1 2", *rows[3:]], 4),
+            ("threshold", script, [*rows[:3], "no 2k2 3 4 0 1", *rows[4:]], 5),
+            ("threshold", script, [*rows[:3], "no 2k2 0 1 2 4", *rows[4:]], 5),
+            ("threshold", script, [*rows[:3], "ok P(S(P(0,2),1),S(3,4))", *rows[4:]], 5),
+            ("threshold", script, [*rows[:4], "no c4 0 4 2 1", rows[5]], 6),
+            ("threshold", script, [*rows[:4], "no p4 0 1 2 4", rows[5]], 6),
+            ("threshold", script, rows[:5], 7),
+            ("trivial", script, trivial, None), ("trivial", script, rows, 5),
+            ("threshold", group, refused, None),
+            ("threshold", group, [refused[0], "no 2k2 0 1 3 4", *refused[2:]], 3),
+            ("threshold", group, [refused[0], "no edit 1 2k2 0 1 3 4", *refused[2:]], 3),
+            ("trivial", group, refused, 3),
+            ("trivial", group, [refused[0], "ok P(S(P(0,2),1),S(3,4))", "ok S(P(0,2),1)", *refused[3:]], None),
+        ]:
+            report = "".join(line + "\n" for line in ["mdt " + mode, *lines, "end"]).encode()
+            self.assertEqual(first_wrong_line(mode, read_graphs(b"Bg\n"), read_script(script), report), wrong,
+                             (mode, script, lines))
         for graph, lines, wrong in [
             (b"&DI?AO?\n", ["t R(0,1,2,3,4;0>2,0>4,3>1,3>4)"], None),
             (b"&BP_\n&BCo\n&AG\n&AW\n&?\n&@?\n",
@@ -238,6 +336,17 @@ class Definitions(unittest.TestCase):
             self.assertEqual(first_wrong_line("dtree", read_digraph6(graph), [], report), wrong, (graph, lines))
         self.assertEqual(first_wrong_line("tree", [], [], b""), 1)
         self.assertEqual(first_wrong_line("tree", [], [], b"mdt tree\nend"), 2)
+
+    def test_bars_beside_degrees_and_classes(self):
+        degrees = {"p4": [1, 1, 2, 2], "c4": [2, 2, 2, 2], "2k2": [1, 1, 1, 1]}
+        for graph in all_graphs(4):
+            for kind, wanted in degrees.items():
+                found = [names for names in permutations(graph) if is_bar(graph, kind, list(names))]
+                self.assertEqual(len(found), sorted(map(len, graph.values())) == wanted, (graph, kind))
+        for n in range(6):
+            for graph in all_graphs(n):
+                self.assertEqual(has_bar(graph, "trivial"), not is_trivially_perfect(graph), graph)
+                self.assertEqual(has_bar(graph, "threshold"), not is_threshold(graph), graph)
 
     def test_trees_beside_all_modules(self):
         r = random.Random(3)
@@ -307,6 +416,10 @@ class Definitions(unittest.TestCase):
             self.assertEqual((caught.exception.kind, caught.exception.line), (kind, line), content)
 
 
+# What makes the first graph of a session, nearly always.
+OF_MODE = {"cograph": random_cograph, "quiet": random_cograph, "trivial": random_trivial, "threshold": random_threshold}
+
+
 @unittest.skipUnless(has_program(), "no program mdt on PATH or in MDT")
 class BesideTheProgram(unittest.TestCase):
     def test_altered_reports(self):
@@ -314,10 +427,10 @@ class BesideTheProgram(unittest.TestCase):
         answers = {True: 0, False: 0}
         with tempfile.TemporaryDirectory() as folder:
             paths = [str(Path(folder) / name) for name in ("graph", "script", "report")]
-            for number in range(70):
+            for number in range(90):
                 mode = list(MODES)[number % len(MODES)]
                 is_session, is_directed = mode in SESSIONS, mode == "dtree"
-                make = random_cograph if mode in ("cograph", "quiet") and r.random() < 0.9 else random_graph
+                make = OF_MODE.get(mode, random_graph) if r.random() < 0.9 else random_graph
                 make, line_of, read = ((random_digraph, digraph6, read_digraph6) if is_directed else
                                        (make, graph6, read_graphs))
                 words = [mode] if is_directed else [mode, "g6"]

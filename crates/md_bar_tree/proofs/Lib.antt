@@ -6,3 +6,4 @@ mod Witnesses
 pub mod BarLaw
 mod Children
 mod Tested
+mod Crossings

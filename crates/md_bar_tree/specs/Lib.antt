@@ -4,3 +4,4 @@ pub mod Laws
 pub mod Following
 pub mod Finding
 pub mod Edges
+pub mod Crossing

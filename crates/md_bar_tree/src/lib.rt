@@ -2,10 +2,12 @@
 //! none, found in its tree, and tested on the graph.
 #![tactic(auto)]
 
+mod bar_at;
 mod bar_search;
 mod bar_test;
 pub mod laws;
 
+pub use bar_at::has_bar_at;
 pub use bar_search::bar_of;
 pub use bar_test::{in_cycle_order, in_pair_order, is_bar};
 

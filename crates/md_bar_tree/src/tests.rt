@@ -225,6 +225,17 @@ fn has_bar(graph: &Graph, class: Class) -> bool {
     false
 }
 
+// Whether one of the first five numbers is a vertex that crosses another one.
+fn some_crosses(graph: &Graph, class: Class) -> bool {
+    let _vertices = graph.vertices();
+    for w in 0..5 {
+        if graph.has_vertex(w) && has_bar_at(graph, class, w) {
+            return true;
+        }
+    }
+    false
+}
+
 fn check_by_search(rt: &impl Abort, alloc: Global, text: &[u8]) -> Result<(), Fail> {
     let Ok(tree) = read_tree(alloc, text) else {
         panic!(rt; "not read");
@@ -237,6 +248,7 @@ fn check_by_search(rt: &impl Abort, alloc: Global, text: &[u8]) -> Result<(), Fa
             Some(bar) => assert!(rt; is_bar(&graph, class, &bar)),
             None => assert!(rt; !has_bar(&graph, class)),
         }
+        assert_eq!(rt; some_crosses(&graph, class), has_bar(&graph, class));
     }
     Ok(())
 }

@@ -3,7 +3,7 @@ use Rattle.std.proofs.Common.{◌≡◌, ℕ, zero, suc, ◌<◌, ◌≤◌, Boo
 use Rattle.std.proofs.lemmas.Bool.{false_from_ne_true}
 use Rattle.std.proofs.lemmas.List.{length-map}
 use Rattle.std.proofs.lemmas.List.Elements.{Contains-get_or}
-use Rattle.std.specs.FinSet.{insert, union}
+use Rattle.std.specs.FinSet.{insert, union, difference}
 use Rattle.md_graph.specs.Sets.{NameSet, Has, Lacks, Within}
 use Rattle.md_graph.proofs.SetLemmas.{clash, of_minus, minus_has, Has-along}
 use Rattle.md_graph.specs.Adjacency.{IsAdjacency}
@@ -17,10 +17,10 @@ use Rattle.md_tree.specs.Trees.{PlainTreeOf, PlainTreesOf, PlainTree, PlainTrees
 use Rattle.md_tree.specs.StrongTrees.{IsInOrder}
 use Rattle.md_tree.specs.WellFormed.{HasShape, IsCanonicalNode}
 use Rattle.md_tree.proofs.Folding.{count_row}
-use Rattle.md_tree.proofs.Nodes.{IsChild, child_inside, child_of_name}
+use Rattle.md_tree.proofs.Nodes.{IsChild, child_inside, child_of_name, at_inside}
 use Rattle.md_tree.specs.Heads.{head, head_at, heads, IsFitNodeBy}
 use Rattle.md_tree.specs.TreeGraph.{joins}
-use Rattle.md_checker.specs.FitTests.{AreHeads, IsFitBy}
+use Rattle.md_checker.specs.FitTests.{AreAlike, AreHeads, IsFitBy}
 use Rattle.std.specs.FinSet.{from_list}
 use Rattle.md_graph.specs.Sets.{union_all}
 use Rattle.md_tree.proofs.Heads.{child_here, place_of_child, heads_in}
@@ -67,6 +67,27 @@ positions_of Prime cs ps shape i d below =
     let b : (get_or ps i d).high < count cs = two.1 in
     (omega arith, b)
 
+-- ---- names that stand for modules
+
+-- where the others agree on names that stand for modules, these make up a module
+module _ {K P C : Type 0} {reverse : C → C} {e : ℕ → ℕ → C} (col : IsColouring reverse e) (s : NameSet) (cs : PlainTreesOf K P) (some : 1 ≤ count cs) (list : List ℕ) (same_size : length list ≡ count cs)
+    (own : (i : ℕ) → i < count cs → Has (names_at cs i) (get_or list i 0)) (mods : (c : PlainTreeOf K P) → IsChild cs c → IsModule e s (names c)) where
+  pub alike_module : AreAlike e (difference s (names_below cs)) list → IsModule e s (names_below cs)
+  alike_module alike = record {
+    some = (let first : 0 < count cs = omega arith in (get_or list 0 0, at_inside cs 0 (get_or list 0 0) (own 0 first)));
+    inside = λ x h. let c = child_of_name cs x h in (mods c.0 c.1).inside x c.2;
+    alike = λ a b x ha hb hx l. first_like a x ha hx l ∙ sym (first_like b x hb hx l);
+  } where
+    first_like : (a x : ℕ) → Has (names_below cs) a → Has s x → Lacks (names_below cs) x → e x a ≡ e x (get_or list 0 0)
+    first_like a x ha hx l =
+        let c : (c : PlainTreeOf K P) × IsChild cs c × Has (names c) a = child_of_name cs a ha in
+        let i : (i : ℕ) × (i < count cs) × (names_at cs i ≡ names c.0) × (head_at cs i ≡ head c.0) = place_of_child cs c.0 c.1 in
+        let out : Lacks (names c.0) x = false_from_ne_true _ (λ h. clash (child_inside cs c.0 c.1 x h) l) in
+        let b : i.0 < count cs = i.1 in
+        let h : Has (names c.0) (get_or list i.0 0) = Has-along (names_at cs i.0) (names c.0) i.2 (get_or list i.0 0) (own i.0 b) in
+        (mods c.0 c.1).alike a (get_or list i.0 0) x c.2 h hx out
+        ∙ other_way col (get_or list i.0 0) x (get_or list 0 0) x (sym (alike i.0 x (omega arith) (minus_has s (names_below cs) x hx l)))
+
 -- ---- a node of modules
 
 module _ {K P C : Type 0} {reverse : C → C} {e : ℕ → ℕ → C} (col : IsColouring reverse e) (puts : K → List P → ℕ → ℕ → C) (IsPrimeKind : K → Type 0) (s : NameSet) (k : K) (ts : List (PlainTreeOf K P)) (ps : List P)
@@ -91,34 +112,17 @@ module _ {K P C : Type 0} {reverse : C → C} {e : ℕ → ℕ → C} (col : IsC
   pub head_vertices : (i : ℕ) → i < length list → Has s (get_or list i 0)
   head_vertices i below = let c = child_at i below in subst (Has s) (sym c.2) ((mods c.0 c.1).inside (head c.0) c.3)
 
-  inside : Within (names_below cs) s
-  inside x h = let c = child_of_name cs x h in (mods c.0 c.1).inside x c.2
-
   list_some : 0 < length list
   list_some = let a = size in let b : 1 ≤ count cs = some in omega arith
 
   pub fit_node : IsFitBy puts IsPrimeKind e s (names_below cs) k ps list → IsFitNodeBy puts IsPrimeKind e s k cs ps
   fit_node fit = record {
-    is_module = record {
-      some = (let c = child_at 0 list_some in (head c.0, child_inside cs c.0 c.1 (head c.0) c.3));
-      inside = inside;
-      alike = λ a b x ha hb hx l. first_like a x ha hx l ∙ sym (first_like b x hb hx l);
-    };
+    is_module = alike_module col s cs some list size (λ i l. subst (Has (names_at cs i)) (sym (head_item ts i)) (own i l)) mods fit.alike;
     joined = λ i j less below.
         let n = size in
         sym (λ w. e (head_item ts i w) (head_item ts j w)) ∙ fit.joined i j less (omega arith);
     trivial = λ prime. subst (HasTrivialModulesAlone e) (sym (heads_set ts)) (fit.trivial prime);
-  } where
-    first_like : (a x : ℕ) → Has (names_below cs) a → Has s x → Lacks (names_below cs) x → e x a ≡ e x (get_or list 0 0)
-    first_like a x ha hx l =
-        let c : (c : PlainTreeOf K P) × IsChild cs c × Has (names c) a = child_of_name cs a ha in
-        let i : (i : ℕ) × (i < count cs) × (names_at cs i ≡ names c.0) × (head_at cs i ≡ head c.0) = place_of_child cs c.0 c.1 in
-        let out : Lacks (names c.0) x = false_from_ne_true _ (λ h. clash (child_inside cs c.0 c.1 x h) l) in
-        let n = size in
-        let b : i.0 < count cs = i.1 in
-        let h : Has (names c.0) (head c.0) = Has-along (names_at cs i.0) (names c.0) i.2 (head c.0) (subst (Has (names_at cs i.0)) i.3 (own i.0 b)) in
-        (mods c.0 c.1).alike a (head c.0) x c.2 h hx out
-        ∙ ap (e x) (sym (head_item ts i.0 ∙ i.3)) ∙ other_way col (get_or list i.0 0) x (get_or list 0 0) x (sym (fit.alike i.0 x (omega arith) (minus_has s (names_below cs) x hx l)))
+  }
 
   pub node_fit : IsFitNodeBy puts IsPrimeKind e s k cs ps → IsFitBy puts IsPrimeKind e s (names_below cs) k ps list
   node_fit fit = record {

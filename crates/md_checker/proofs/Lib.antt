@@ -16,10 +16,12 @@ pub mod Trivial
 pub mod FitRows
 pub mod FitNodes
 pub mod FitStacks
+mod NamedNodes
 mod TextWalk
 mod Comparing
 mod ArcTexts
-mod HeadPairs
+pub mod HeadPairs
+mod GraphTexts
 mod Taking
 mod Cotrees
 mod Splitting

@@ -8,6 +8,8 @@ pub mod Checkers
 pub mod FitTests
 pub mod Gathered
 pub mod HeadPairs
+pub mod TextViews
+pub mod GraphViews
 pub mod TextFits
 pub mod Hands
 pub mod Judged

@@ -1,17 +1,16 @@
 //! Compares a text with the pairs of a prime node that a graph demands. No pair is kept.
-ghost use Rattle.std.specs.Prelude.{◌≡◌, ◌≢◌, ◌+◌, ◌*◌, ◌<◌, ◌≤◌, ◌^◌, ℕ, Bool, List, [], ◌∷◌, ◌++◌, length, get_or, IfOk, IfSome};
+ghost use Rattle.std.specs.Prelude.{◌≡◌, ◌≢◌, ◌+◌, ◌<◌, ◌≤◌, ◌^◌, ℕ, Bool, true, List, [], ◌∷◌, ◌++◌, length, get_or, IfOk, IfSome};
 ghost use Rattle.std.specs.List.{All};
-ghost use Rattle.md_graph.specs.declared.TheConstants.{NAMES};
-ghost use Rattle.md_graph.specs.NameSet.{ascending};
-ghost use Rattle.md_graph.specs.PlainGraph.{adjacent};
-ghost use Rattle.md_tree.specs.declared.Pair.{Pair};
-ghost use Rattle.md_tree.specs.TreeTexts.{pairs_text};
-ghost use Rattle.md_checker.specs.FitTests.{AreHeads};
+ghost use Rattle.md_graph.specs.declared.TheConstants.{NAMES, WORDS};
+ghost use Rattle.md_tree.specs.TreeTexts.{pairs_text_by};
 ghost use Rattle.md_checker.specs.HeadPairs.{near_heads, near_pairs, head_pairs, SpellPositions, MatchesPairs};
+ghost use Rattle.md_checker.specs.TextViews.{StandForChildren};
 
 use crate::piece_compare::{past_each, put_pair};
-use md_graph::{GraphOf, Memory, Set};
+use crate::text_graph::TextGraph;
+use md_graph::{Members, Memory, Set};
 use md_text::{Chunk, Piece, digits_piece, number_piece, piece_behind, skip_byte};
+use md_tree::{Lettered, Paired};
 use std::alloc::Global;
 
 // What a comparison of pairs needs beside the text: at the place of each head its position, a chunk
@@ -33,58 +32,66 @@ impl PairSpace {
     }
 }
 
-// What stands behind the pairs of a prime node with these heads, and behind its bracket; none if
-// the text doesn't begin with them, or if there is no pair. Condition: there are as few heads as
-// names.
-pub(crate) fn past_pairs<'a, const W: usize>(
-    graph: &GraphOf<W>,
+// What stands behind the pairs of a prime node with these names of its children, and behind its
+// bracket; none if the text doesn't begin with them, or if there is no pair. Condition: there are
+// as few as names.
+pub(crate) fn past_pairs<'a, K: Lettered, P: Paired, G: TextGraph<K, P, W>, const W: usize>(
+    graph: &G,
     heads: &[u32],
     text: &'a [u8],
     space: &mut PairSpace,
 ) -> Result<Option<&'a [u8]>, Memory>
-    requires heads { AreHeads graph.now.vertices [] heads.now }
+    requires limit { W ≤ WORDS }
+    requires heads { StandForChildren (G.view graph.now).vertices true heads.now }
     requires few { length heads.now ≤ NAMES }
     ensures some { IfOk result (λ o. IfSome o (λ tail.
-        head_pairs (adjacent graph.now) 0 heads.now ≢ [])) }
-    ensures text { IfOk result (λ o. IfSome o (λ tail.
-        text.now ≡ pairs_text 59 (head_pairs (adjacent graph.now) 0 heads.now) ++ 41 ∷ tail.now)) }
+        head_pairs P.rules (G.view graph.now).lists heads.now ≢ [])) }
+    ensures text { IfOk result (λ o. IfSome o (λ tail. text.now ≡ pairs_text_by P.rules 59
+        (head_pairs P.rules (G.view graph.now).lists heads.now) ++ 41 ∷ tail.now)) }
 {
-    let _vertices = graph.vertices();
-    spell_places(&mut space.places, graph.bound(), heads)?;
-    let Some(rest) = past_heads(graph, heads, text, space) else {
+    spell_places(&mut space.places, heads)?;
+    let Some(rest) = past_heads::<K, P, G, W>(graph, heads, text, space) else {
         return Ok(None);
     };
     if space.mark == b';' {
         return Ok(None);
     }
-    let Some(mark) = space.chunk.strip_from(rest) else {
-        return Ok(None);
-    };
-    match skip_byte(mark, b')') {
-        Ok(tail) => Ok(Some(tail)),
-        Err(_) => Ok(None),
+    match space.chunk.strip_from(rest) {
+        Some(mark) => Ok(past_bracket(mark)),
+        None => Ok(None),
+    }
+}
+
+// What stands behind the bracket at the end of a node.
+pub(crate) fn past_bracket(text: &[u8]) -> Option<&[u8]>
+    ensures { IfSome result (λ tail. text.now ≡ 41 ∷ tail.now) }
+{
+    match skip_byte(text, b')') {
+        Ok(tail) => Some(tail),
+        Err(_) => None,
     }
 }
 
 // Puts down the position of each head at its place.
-fn spell_places(places: &mut Vec<Piece>, bound: u32, heads: &[u32]) -> Result<(), Memory>
-    requires below { (i : ℕ) → i < length heads.now → get_or heads.now i 0 < bound }
+fn spell_places(places: &mut Vec<Piece>, heads: &[u32]) -> Result<(), Memory>
+    requires some { 0 < length heads.now }
     requires ascending { (i j : ℕ) → i < j → j < length heads.now
         → get_or heads.now i 0 < get_or heads.now j 0 }
     requires few { length heads.now ≤ NAMES }
     ensures { IfOk result (λ _. SpellPositions places.new.items 0 heads.now) }
 {
-    make_places(places, bound as usize)?;
+    make_places(places, heads[heads.len() - 1])?;
     for (position, head) in heads.iter().enumerate() {
         places[*head as usize] = digits_piece(position as u32);
     }
     Ok(())
 }
 
-// Makes places, so that there are as many.
-fn make_places(places: &mut Vec<Piece>, count: usize) -> Result<(), Memory>
-    ensures { IfOk result (λ _. count ≤ length places.new.items) }
+// Makes places, so that there is one for the name.
+fn make_places(places: &mut Vec<Piece>, last: u32) -> Result<(), Memory>
+    ensures { IfOk result (λ _. last < length places.new.items) }
 {
+    let count = last as usize + 1;
     if places.len() < count {
         places.resize(count, digits_piece(0))?;
     }
@@ -92,53 +99,54 @@ fn make_places(places: &mut Vec<Piece>, count: usize) -> Result<(), Memory>
 }
 
 // Compares the pairs of the heads, of which the last ones may still be gathered.
-fn past_heads<'a, const W: usize>(
-    graph: &GraphOf<W>,
+fn past_heads<'a, K: Lettered, P: Paired, G: TextGraph<K, P, W>, const W: usize>(
+    graph: &G,
     heads: &[u32],
     text: &'a [u8],
     space: &mut PairSpace,
 ) -> Option<&'a [u8]>
-    requires heads { AreHeads graph.now.vertices [] heads.now }
+    requires limit { W ≤ WORDS }
+    requires heads { StandForChildren (G.view graph.now).vertices true heads.now }
     requires few { length heads.now ≤ NAMES }
     requires places { SpellPositions space.old.places.items 0 heads.now }
-    ensures { IfSome result (λ rest. MatchesPairs text.now rest.now space.new.mark space.new.chunk
-        (head_pairs (adjacent graph.now) 0 heads.now)) }
+    ensures { IfSome result (λ rest. MatchesPairs P.rules text.now rest.now space.new.mark
+        space.new.chunk (head_pairs P.rules (G.view graph.now).lists heads.now)) }
 {
     let _vertices = graph.vertices();
     space.chunk.clear();
     space.mark = b';';
-    let mut later = Set::from_list(heads);
+    let all = Set::from_list(heads);
     let mut rest = text;
     for (position, head) in heads.iter().enumerate() {
-        later.remove(*head);
-        let near = graph.row(*head).and(&later);
-        rest = past_row(&near, position as u32, rest, space)?;
+        let (row, from) = graph.ahead(*head);
+        let near = row.and(&all);
+        rest = past_row::<P>(near.members_from(from), position as u32, rest, space)?;
     }
     Some(rest)
 }
 
 // Compares the pairs of the position `low` with those of the near heads.
-fn past_row<'a, const W: usize>(
-    near: &Set<W>,
+fn past_row<'a, P: Paired>(
+    near: Members<'_>,
     low: u32,
     text: &'a [u8],
     space: &mut PairSpace,
 ) -> Option<&'a [u8]>
     requires low { low < 10 ^ 5 }
-    requires there { All (λ v. v < length space.old.places.items) (ascending near.now) }
+    requires there { All (λ v. v < length space.old.places.items) near }
     ensures matches { IfSome result (λ rest. (e : ℕ → ℕ → Bool) (v j : ℕ) (ws whole : List ℕ)
-        (ps : List Pair) → SpellPositions space.old.places.items j ws
-        → ascending near.now ≡ near_heads e v ws
-        → MatchesPairs whole text.now space.old.mark space.old.chunk ps
-        → MatchesPairs whole rest.now space.new.mark space.new.chunk
-        (ps ++ near_pairs e v low j ws)) }
+        (ps : List P) → SpellPositions space.old.places.items j ws
+        → near.entry ≡ near_heads e v ws
+        → MatchesPairs P.rules whole text.now space.old.mark space.old.chunk ps
+        → MatchesPairs P.rules whole rest.now space.new.mark space.new.chunk
+        (ps ++ near_pairs P.rules e v low j ws)) }
     ensures places { space.new.places.items ≡ space.old.places.items }
 {
-    let mut others = near.members();
+    let mut others = near;
     let Some(first) = others.next() else {
         return Some(text);
     };
-    let digits = number_piece(low, b'-');
+    let digits = number_piece(low, P::between());
     let start = piece_behind(space.mark, digits);
     space.mark = b',';
     let rest = put_pair(start, first, text, &space.places, &mut space.chunk)?;

@@ -21,6 +21,8 @@ mod piece_compare;
 mod report_line;
 mod session_checker;
 mod text_fit;
+mod text_graph;
+mod text_walk;
 mod tree_fit;
 
 pub use answer::CheckAnswer;
@@ -28,6 +30,8 @@ pub use certificates::{is_forcing_chain, is_least_edge_orientation, realise};
 pub use check::{check_graphs, check_session};
 pub use checker::Checker;
 pub use line_judge::{LineJudge, judge};
+pub use text_graph::TextGraph;
+pub use text_walk::is_text_by_rows;
 pub use tree_fit::{are_alone, fits};
 
 #[cfg(test)]

@@ -22,7 +22,7 @@ use Rattle.md_script.proofs.BackLemmas.{inverse_back}
 use Rattle.md_script.proofs.GroupLemmas.{GoesBack, back_weaker, kept_goes_back, one_goes_back}
 use Rattle.md_report.specs.Cographs.{IsCograph}
 use Rattle.md_report.specs.Lines.{PlainLine, applied, refused, refused_bar, group_refused, group_refused_bar}
-use Rattle.md_report.specs.Sessions.{HasTreeLine, led_to, is_applied}
+use Rattle.md_report.specs.Sessions.{led_to, is_applied}
 use Rattle.md_report.specs.Steps.{state_of}
 use Rattle.md_report.proofs.Groups.{drop_read, past_applied, whole_line}
 use Rattle.md_report.proofs.Stepping.{refused_step, led_step, all_graph}

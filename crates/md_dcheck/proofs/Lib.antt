@@ -4,3 +4,4 @@ mod ArcTests
 mod NodeHeads
 mod DirectedWalks
 mod Recognized
+mod ArcViews

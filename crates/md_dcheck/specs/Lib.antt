@@ -4,3 +4,4 @@ pub mod DueDigraphs
 pub mod DirectedLaws
 pub mod DirectedFaults
 pub mod DirectedFitTests
+pub mod DirectedViews

@@ -3,6 +3,7 @@ ghost use Rattle.std.specs.Prelude.{◌≡◌, ◌↔◌, IfOk, IsTrue};
 ghost use Rattle.md_dcheck.specs.DirectedReports.{DirectedLine, HasDirectedTree, directed_line_text};
 ghost use Rattle.md_dcheck.specs.DueDigraphs.{HasTreeText};
 
+use crate::digraph_text::is_text_of_tree;
 use crate::directed_fit::well_formed_fits;
 use md_digraph::DigraphOf;
 use md_digraph6::{DigraphBySize, DirectedRoom};
@@ -39,7 +40,8 @@ fn is_tree_line<const W: usize>(
     }
 }
 
-// Whether the text is that of the tree of the directed graph. Errors: want of memory.
+// Whether the text is that of the tree of the directed graph. The text of a right tree is compared
+// as it stands; another one is read. Errors: want of memory.
 fn is_tree_text<const W: usize>(
     alloc: Global,
     graph: &DigraphOf<W>,
@@ -48,6 +50,9 @@ fn is_tree_text<const W: usize>(
     ensures { IfOk result (λ fit. IsTrue fit ↔ HasTreeText graph.now text.now) }
 {
     let _vertices = graph.vertices();
+    if is_text_of_tree(alloc, graph, text)? {
+        return Ok(true);
+    }
     match read_directed(alloc, text) {
         Ok(tree) => well_formed_fits(alloc, graph, &tree),
         Err(TreeFault::Syntax { place: _ }) => Ok(false),

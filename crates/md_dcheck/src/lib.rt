@@ -2,6 +2,7 @@
 //! trees. It stands on no crate that computes such a tree.
 #![tactic(auto)]
 
+mod digraph_text;
 mod directed_check;
 mod directed_checker;
 mod directed_fit;

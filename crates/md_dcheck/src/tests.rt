@@ -11,7 +11,7 @@ use std::process::Abort;
 use std::test::Fail;
 
 // The directed graph of the one line of a file.
-fn digraph(rt: &impl Abort, alloc: Global, file: &[u8]) -> Result<Digraph, Memory> {
+pub(crate) fn digraph(rt: &impl Abort, alloc: Global, file: &[u8]) -> Result<Digraph, Memory> {
     let mut graph = Digraph::new(alloc)?;
     if scan_directed(file).is_err() {
         panic!(rt; "a fault");

@@ -46,14 +46,14 @@ same_numbers p i j h =
     let b : p.to ≡ j = eqb-true p.to j two.1 in
     λ k. record { from = sym a k; to = sym b k }
 
-of_listed : (ps : List DPair) (i j : ℕ) → lists_arc ps i j ≡ true → In ps (arc_pair i j)
+pub of_listed : (ps : List DPair) (i j : ℕ) → lists_arc ps i j ≡ true → In ps (arc_pair i j)
 of_listed [] i j h = absurd (true≢false (sym h))
 of_listed (p ∷ ps) i j h = elim (cases_Bool (eqb p.from i && eqb p.to j)) [
   | inl a ↦ inl (same_numbers p i j a)
   | inr a ↦ inr (of_listed ps i j (sym (ap (λ w. w || lists_arc ps i j) a) ∙ h))
 ]
 
-to_listed : (ps : List DPair) (p : DPair) → In ps p → lists_arc ps p.from p.to ≡ true
+pub to_listed : (ps : List DPair) (p : DPair) → In ps p → lists_arc ps p.from p.to ≡ true
 to_listed [] p i = absurd i
 to_listed (q ∷ ps) p (inl e) =
     ap (λ w. (w && eqb q.to p.to) || lists_arc ps p.from p.to) (eq-eqb q.from p.from (sym (ap (λ r. r.from) e)))

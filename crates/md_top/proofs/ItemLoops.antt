@@ -1,5 +1,5 @@
 -- A session's loop over the items of a script: what it puts, and what its history keeps for the undos that are left.
-use Rattle.std.proofs.Common.{◌≡◌, ◌≤◌, ◌<◌, ℕ, zero, suc, ◌+◌, ◌-◌, Bool, true, false, cond, List, [], ◌∷◌, drop, length, Option, Result, Err, IsErrAnd, Some, refl, sym, ◌∙◌, ap, subst, if◌then◌else◌, arith}
+use Rattle.std.proofs.Common.{◌≡◌, ◌≤◌, ◌<◌, ℕ, ◌+◌, ◌-◌, Bool, true, false, cond, List, [], ◌∷◌, drop, length, Option, Result, Err, IsErrAnd, Some, refl, sym, ◌∙◌, ap, subst, if◌then◌else◌, arith}
 use Rattle.std.specs.Prelude.{slice_get, ◌==◌}
 use Rattle.std.specs.List.{count_by}
 use Rattle.std.proofs.lemmas.List.{drop_all}
@@ -19,7 +19,7 @@ use Rattle.md_report.proofs.Groups.{drop_read}
 use Rattle.md_top.specs.declared.stop.PutStop.{PutStop}
 use Rattle.md_top.specs.Sinks.{sink, AppendsLines, PutsLines}
 use Rattle.md_top.proofs.Keeping.{IsKept, left_behind, kept_forgotten, kept_answers, kept_behind}
-use Rattle.md_top.proofs.Lines.{no_lines, stopped_before, stopped_behind, lines_behind}
+use Rattle.md_top.proofs.Lines.{no_lines, stopped_behind, lines_behind}
 
 -- lines have led to a state at these items, of which so much is kept in t that n undos can reach
 pub record HaveLed (mode : SessionMode) (p : Place) (items : List Item) (n : ℕ) (t : State) (old now : Option (List ℕ)) : Type 0 where

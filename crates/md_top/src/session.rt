@@ -29,9 +29,7 @@ use crate::undos::{forget_unreached, undos_behind};
 use md_graph::{GraphOf, Memory, Steps};
 use md_input::{Format, SessionInputs, session_inputs};
 use md_io::Sink;
-use md_report::{
-    Line, SessionMode, write_applied, write_line, write_session_head, write_tree,
-};
+use md_report::{Line, SessionMode, write_applied, write_line, write_session_head, write_tree};
 use md_script::{HistoryOf, Item, Script};
 use md_session::{LocalAnswer, LocalSessionOf};
 use std::alloc::Global;

@@ -1,4 +1,4 @@
-use Rattle.std.proofs.Common.{◌≤◌, ◌*◌, Option, Some, None, Ok, sym, ◌∙◌, subst, rules}
+use Rattle.std.proofs.Common.{◌≤◌, ◌*◌, Option, Ok, sym, ◌∙◌, subst, rules}
 use Rattle.md_graph.proofs.Limits.{words_few}
 use Rattle.md_tree.specs.Plain.{plain_option}
 use Rattle.md_bar.specs.declared.ClassLine.{ClassLine}

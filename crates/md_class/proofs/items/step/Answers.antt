@@ -1,7 +1,6 @@
 use Rattle.std.proofs.Common.{◌≡◌, ◌++◌, ◌∷◌, [], None, refl, sym, ◌∙◌, ap, subst, rules}
 use Rattle.md_graph.proofs.Limits.{words_few}
 use Rattle.md_graph.specs.PlainGraph.{PlainGraph}
-use Rattle.md_bar_tree.specs.declared.Bar.{Bar}
 use Rattle.md_cotree.specs.Cotrees.{Denotes}
 use Rattle.md_script.specs.declared.edit.Edit.{Edit}
 use Rattle.md_script.specs.Edit.{reason_of, after}

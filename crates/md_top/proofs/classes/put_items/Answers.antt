@@ -7,7 +7,6 @@ use Rattle.md_script.specs.Items.{HasItemNamesBelow}
 use Rattle.md_report.specs.declared.line.SessionMode.TheVariants.{Of}
 use Rattle.md_report.specs.Classes.{IsAllowedIn}
 use Rattle.md_report.specs.Steps.{state_of, ItemStep}
-use Rattle.md_report.specs.Lines.{plain_line}
 use Rattle.md_report.specs.Places.{at_items, after_end}
 use Rattle.md_report.specs.Sessions.{first_state}
 use Rattle.md_top.proofs.Lines.{stopped_behind, stopped_before, puts_behind, no_lines}

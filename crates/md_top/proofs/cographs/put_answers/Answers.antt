@@ -1,5 +1,5 @@
 -- One more line is put, or the call stopped within it.
-use Rattle.std.proofs.Common.{◌≤◌, ◌*◌, [], drop, refl, rules, sym, subst, ◌∙◌, arith}
+use Rattle.std.proofs.Common.{◌≤◌, ◌*◌, [], drop, rules, sym, subst, ◌∙◌, arith}
 use Rattle.md_script.proofs.ChangeLemmas.{holds_at}
 use Rattle.md_script.specs.Histories.{HistoryFits}
 use Rattle.md_script.specs.Items.{HasItemNamesBelow}

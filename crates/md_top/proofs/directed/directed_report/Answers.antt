@@ -1,14 +1,11 @@
 -- The report of the directed graphs that the file spells, or the stop.
-use Rattle.std.proofs.Common.{◌≡◌, None, refl, ap, subst, option_map}
+use Rattle.std.proofs.Common.{◌≡◌, refl, ap, option_map}
 use Rattle.md_input.specs.declared.fault.Fault.TheVariants.{Graph6}
-use Rattle.md_digraph.specs.PlainDigraph.{PlainDigraph}
 use Rattle.md_digraph6.specs.ArcFile.{digraphs_of}
-use Rattle.md_dcheck.specs.DirectedFaults.{digraph_fault}
-use Rattle.md_dcheck.specs.DirectedReports.{before_directed, after_directed}
+use Rattle.md_dcheck.specs.DirectedReports.{before_directed}
 use Rattle.md_top.specs.Starts.{of_digraphs}
 use Rattle.md_top.specs.Answer.{report}
 use Rattle.md_top.specs.declared.stop.Verdict.TheVariants.{Done}
-use Rattle.md_top.specs.Sinks.{sink_run, PutsDirected}
 use Rattle.md_top.proofs.Beginnings.{digraphs_spelled}
 use Rattle.md_top.proofs.Outputs.{command_done, command_stopped}
 use Rattle.md_top.proofs.directed.directed_report.Goals as goal

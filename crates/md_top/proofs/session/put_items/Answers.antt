@@ -5,7 +5,6 @@ use Rattle.md_script.specs.Histories.{HistoryFits}
 use Rattle.md_script.specs.Items.{HasItemNamesBelow}
 use Rattle.md_script.specs.Pasts.{AnyGraph}
 use Rattle.md_report.specs.declared.line.SessionMode.TheVariants as modes
-use Rattle.md_report.specs.Lines.{plain_line}
 use Rattle.md_report.specs.Places.{at_items, after_end}
 use Rattle.md_report.specs.Sessions.{first_state}
 use Rattle.md_report.specs.Steps.{state_of}

@@ -1,0 +1,143 @@
+-- A node fits where names of its children do, whichever names of them these are.
+use Rattle.std.proofs.Common.{◌≡◌, ℕ, zero, suc, ◌<◌, ◌≤◌, List, [], ◌∷◌, length, get_or, refl, sym, ◌∙◌, ap, ap₂, subst, inl, inr, arith}
+use Rattle.std.specs.FinSet.{empty, union, insert, from_list}
+use Rattle.md_graph.specs.Sets.{NameSet, Has, Disjoint, Within, only_name}
+use Rattle.md_graph.proofs.SetLemmas.{clash, empty_lacks, of_only, of_union, union_left, union_right, same_members}
+use Rattle.md_modules.specs.Colours.{IsColouring, AreTold}
+use Rattle.md_modules.specs.Kinds.{IsUnsplit}
+use Rattle.md_modules.specs.Modules.{IsModule, IsMaximalStrong, HasTrivialModulesAlone}
+use Rattle.md_tree.specs.Heads.{head_at, heads, AreChildModules, AreStrongChildren, IsFitNodeBy}
+use Rattle.md_tree.specs.Held.{IsLeast, AreLeast}
+use Rattle.md_tree.specs.Trees.{PlainTreeOf, PlainTreesOf, leaf, node, no_tree, one_more, names, names_below, names_at, count, row}
+use Rattle.md_tree.specs.WellFormed.{AreDisjoint}
+use Rattle.md_tree.proofs.Fitted.{at_places, told_by_heads, modules_below}
+use Rattle.md_tree.proofs.Folding.{count_row}
+use Rattle.md_tree.proofs.Holding.{least_length}
+use Rattle.md_tree.proofs.Nodes.{IsChild}
+use Rattle.md_checker.specs.FitTests.{IsFitBy}
+use Rattle.md_checker.proofs.FitNodes.{alike_module}
+
+-- each number is the least name of the tree at its position
+pub least_here : {K P : Type 0} (ts : List (PlainTreeOf K P)) (ms : List ℕ) → AreLeast ts ms → (i : ℕ) → i < length ms → IsLeast (names_at (row ts) i) (get_or ms i 0)
+least_here [] [] l i below = let b : i < 0 = below in absurd (omega arith)
+least_here [] (m ∷ ms) l i below = absurd l
+least_here (t ∷ ts) [] l i below = absurd l
+least_here (t ∷ ts) (m ∷ ms) l zero below = l.0
+least_here (t ∷ ts) (m ∷ ms) l (suc i) below = let b : suc i < suc (length ms) = below in least_here ts ms l.1 i (omega arith)
+
+-- ---- trees of the same names whose heads are given names
+
+module _ {K P : Type 0} (k : K) where
+  abbrev led_tree : PlainTreeOf K P → ℕ → PlainTreeOf K P
+  led_tree t m = node k (one_more (leaf m) (one_more t no_tree)) []
+
+  abbrev led : List (PlainTreeOf K P) → List ℕ → PlainTreesOf K P
+  led [] ms = no_tree
+  led (t ∷ ts) [] = no_tree
+  led (t ∷ ts) (m ∷ ms) = one_more (led_tree t m) (led ts ms)
+
+  led_names : (t : PlainTreeOf K P) (m : ℕ) → Has (names t) m → names (led_tree t m) ≡ names t
+  led_names t m h = same_members (union (only_name m) (union (names t) empty)) (names t)
+      (λ x g. elim (of_union (only_name m) (union (names t) empty) x g) [
+        | inl a ↦ subst (Has (names t)) (sym (of_only m x a)) h
+        | inr b ↦ elim (of_union (names t) empty x b) [ inl c ↦ c | inr n ↦ clash n (empty_lacks x) ]
+      ])
+      (λ x g. union_right (only_name m) (union (names t) empty) x (union_left (names t) empty x g))
+
+  led_count : (ts : List (PlainTreeOf K P)) (ms : List ℕ) → AreLeast ts ms → count (led ts ms) ≡ count (row ts)
+  led_count [] ms l = refl
+  led_count (t ∷ ts) [] l = absurd l
+  led_count (t ∷ ts) (m ∷ ms) l = ap (λ n. suc n) (led_count ts ms l.1)
+
+  led_below : (ts : List (PlainTreeOf K P)) (ms : List ℕ) → AreLeast ts ms → names_below (led ts ms) ≡ names_below (row ts)
+  led_below [] ms l = refl
+  led_below (t ∷ ts) [] l = absurd l
+  led_below (t ∷ ts) (m ∷ ms) l = ap₂ union (led_names t m l.0.member) (led_below ts ms l.1)
+
+  led_at : (ts : List (PlainTreeOf K P)) (ms : List ℕ) → AreLeast ts ms → (i : ℕ) → names_at (led ts ms) i ≡ names_at (row ts) i
+  led_at [] ms l i = refl
+  led_at (t ∷ ts) [] l i = absurd l
+  led_at (t ∷ ts) (m ∷ ms) l zero = led_names t m l.0.member
+  led_at (t ∷ ts) (m ∷ ms) l (suc i) = led_at ts ms l.1 i
+
+  led_head : (ts : List (PlainTreeOf K P)) (ms : List ℕ) → AreLeast ts ms → (i : ℕ) → head_at (led ts ms) i ≡ get_or ms i 0
+  led_head [] [] l i = refl
+  led_head [] (m ∷ ms) l i = absurd l
+  led_head (t ∷ ts) [] l i = absurd l
+  led_head (t ∷ ts) (m ∷ ms) l zero = refl
+  led_head (t ∷ ts) (m ∷ ms) l (suc i) = led_head ts ms l.1 i
+
+  led_heads : (ts : List (PlainTreeOf K P)) (ms : List ℕ) → AreLeast ts ms → heads (led ts ms) ≡ from_list ms
+  led_heads [] [] l = refl
+  led_heads [] (m ∷ ms) l = absurd l
+  led_heads (t ∷ ts) [] l = absurd l
+  led_heads (t ∷ ts) (m ∷ ms) l = ap (λ s. insert s m) (led_heads ts ms l.1)
+
+  led_apart : (ts : List (PlainTreeOf K P)) (ms : List ℕ) → AreLeast ts ms → AreDisjoint (row ts) → AreDisjoint (led ts ms)
+  led_apart [] ms l a = tt
+  led_apart (t ∷ ts) [] l a = absurd l
+  led_apart (t ∷ ts) (m ∷ ms) l a = (
+    subst (λ s. Disjoint s (names_below (led ts ms))) (sym (led_names t m l.0.member)) (subst (Disjoint (names t)) (sym (led_below ts ms l.1)) a.0),
+    led_apart ts ms l.1 a.1,
+  )
+
+-- ---- a node with names of its children
+
+module _ {K P C : Type 0} {reverse : C → C} {e : ℕ → ℕ → C} (col : IsColouring reverse e) (told : AreTold C) (puts : K → List P → ℕ → ℕ → C) (prime : K) (s : NameSet) (k : K) (ts : List (PlainTreeOf K P)) (ps : List P) (ms : List ℕ)
+    (least : AreLeast ts ms) (some : 1 ≤ count (row ts)) (many : k ≡ prime → 3 ≤ count (row ts)) (apart : AreDisjoint (row ts)) (own : (i : ℕ) → i < count (row ts) → Has (names_at (row ts) i) (head_at (row ts) i))
+    (inside : Within (names_below (row ts)) s) (mods : (c : PlainTreeOf K P) → IsChild (row ts) c → IsModule e s (names c)) where
+  abbrev cs : PlainTreesOf K P
+  cs = row ts
+
+  abbrev ds : PlainTreesOf K P
+  ds = led k ts ms
+
+  same_size : length ms ≡ count cs
+  same_size = sym (least_length ts ms least) ∙ sym (count_row ts)
+
+  below : names_below ds ≡ names_below cs
+  below = led_below k ts ms least
+
+  lie : (i : ℕ) → i < count cs → Has (names_at cs i) (get_or ms i 0)
+  lie i l = let n = same_size in (least_here ts ms least i (omega arith)).member
+
+  of_cs : AreChildModules e cs
+  of_cs = modules_below s cs apart own inside mods
+
+  of_ds : AreChildModules e ds
+  of_ds = record {
+    apart = led_apart k ts ms least apart;
+    heads = λ i l.
+        let n = led_count k ts ms least in
+        subst (Has (names_at ds i)) (sym (led_head k ts ms least i)) (subst (λ w. Has w (get_or ms i 0)) (sym (led_at k ts ms least i)) (lie i (omega arith)));
+    modules = λ i l.
+        let n = led_count k ts ms least in
+        subst (λ w. IsModule e w (names_at ds i)) (sym below) (subst (IsModule e (names_below cs)) (sym (led_at k ts ms least i)) (of_cs.modules i (omega arith)));
+  }
+
+  trivial_heads : 3 ≤ count cs → HasTrivialModulesAlone e (from_list ms) → HasTrivialModulesAlone e (heads cs)
+  trivial_heads three all =
+      let n = led_count k ts ms least in
+      let un : IsUnsplit e (names_below ds) × AreStrongChildren e ds = (told_by_heads col ds of_ds told).unsplit (omega arith) (subst (HasTrivialModulesAlone e) (sym (led_heads k ts ms least)) all) in
+      (told_by_heads col cs of_cs told).trivial (subst (IsUnsplit e) below un.0)
+      (λ m. (
+        (λ max.
+            let i : (i : ℕ) × (i < count ds) × (m ≡ names_at ds i) = (un.1 m).0 (subst (λ w. IsMaximalStrong e w m) (sym below) max) in
+            let b : i.0 < count ds = i.1 in
+            (i.0, (let c : i.0 < count cs = omega arith in c), i.2 ∙ led_at k ts ms least i.0)),
+        (λ i.
+            let b : i.0 < count cs = i.1 in
+            subst (λ w. IsMaximalStrong e w m) below ((un.1 m).1 (i.0, (let c : i.0 < count ds = omega arith in c), i.2 ∙ sym (led_at k ts ms least i.0)))),
+      ))
+
+  pub named_fit : IsFitBy puts (λ l. l ≡ prime) e s (names_below cs) k ps ms → IsFitNodeBy puts (λ l. l ≡ prime) e s k cs ps
+  named_fit fit = record {
+    is_module = alike_module col s cs some ms same_size lie mods fit.alike;
+    joined = λ i j less b.
+        let n = same_size in
+        let c : i < count cs = omega arith in
+        at_places col ds of_ds i j (head_at cs i) (head_at cs j) less
+        (subst (λ w. Has w (head_at cs i)) (sym (led_at k ts ms least i)) (own i c)) (subst (λ w. Has w (head_at cs j)) (sym (led_at k ts ms least j)) (own j b))
+        ∙ (λ w. e (led_head k ts ms least i w) (led_head k ts ms least j w)) ∙ fit.joined i j less (omega arith);
+    trivial = λ is. trivial_heads (many is) (fit.trivial is);
+  }
