@@ -26,6 +26,4 @@ mod Taking
 mod Cotrees
 mod Splitting
 mod PathLines
-mod Crossings
-mod Unchanged
 mod LineTrees

@@ -14,5 +14,4 @@ pub mod TextFits
 pub mod Hands
 pub mod Judged
 pub mod Splitting
-pub mod Crossings
 pub mod ReportLines

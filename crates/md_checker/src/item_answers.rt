@@ -252,7 +252,7 @@ fn is_barred<const W: usize>(mode: SessionMode, graph: &GraphOf<W>, edit: &Edit)
         SessionMode::Edit => false,
         SessionMode::Cograph => made_p4(graph, edit).is_some(),
         SessionMode::Quiet => made_p4(graph, edit).is_some(),
-        SessionMode::Of(class) => makes_bar(class, graph, edit),
+        SessionMode::Of(class) => makes_bar(graph, class, edit),
     }
 }
 
@@ -501,7 +501,7 @@ fn is_led_text<const W: usize>(
 {
     match mode {
         SessionMode::Of(class) => {
-            Ok(is_word_and_tree(alloc, graph, b"ok ", text)? && !makes_bar(class, graph, edit))
+            Ok(is_word_and_tree(alloc, graph, b"ok ", text)? && !makes_bar(graph, class, edit))
         }
         _ => is_word_and_state(alloc, mode, graph, b"ok ", text),
     }

@@ -25,7 +25,7 @@ makes_bar-requires g c =
     let r = c.requires in (search rules, (r.0, r.1, subst (λ (m : SessionMode). IsAllowed m r.0) c.in-Of.is r.2))
 
 pub returns-in-Of-clause-barred : goal.returns-in-Of-clause-barred
-returns-in-Of-clause-barred g c = λ is allowed. (subst (λ (m : SessionMode). IsAllowed m c.args.graph.now) c.in-Of.is allowed) (c.makes_bar.ensures.0 is)
+returns-in-Of-clause-barred g c = λ is allowed. c.makes_bar.ensures.barred is (subst (λ (m : SessionMode). IsAllowed m c.args.graph.now) c.in-Of.is allowed)
 
 pub returns-in-Of-clause-allowed : goal.returns-in-Of-clause-allowed
-returns-in-Of-clause-allowed g c = λ none. rw c.in-Of.is (λ bar. none (c.makes_bar.ensures.1 bar))
+returns-in-Of-clause-allowed g c = λ none. rw c.in-Of.is (c.makes_bar.ensures.allowed none)
