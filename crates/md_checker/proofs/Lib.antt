@@ -27,3 +27,4 @@ mod Cotrees
 mod Splitting
 mod PathLines
 mod LineTrees
+mod ClassEdits
