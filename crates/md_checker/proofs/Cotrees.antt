@@ -8,7 +8,6 @@ use Rattle.md_graph.specs.PlainGraph.{PlainGraph, IsGraph, adjacent}
 use Rattle.md_graph.proofs.SetLemmas.{clash}
 use Rattle.md_modules.proofs.Turns.{graph_adjacency}
 use Rattle.md_bar_tree.specs.declared.Class.{Class}
-use Rattle.md_bar_tree.specs.declared.BarKind.TheVariants as kinds
 use Rattle.md_bar_tree.specs.declared.Bar.{Bar}
 use Rattle.md_bar_tree.specs.Bars.{IsBar, HasBar}
 use Rattle.md_text.proofs.Lists.{In, in_left, in_right}
@@ -24,6 +23,7 @@ use Rattle.md_report.specs.declared.line.SessionMode.{SessionMode}
 use Rattle.md_report.specs.Classes.{IsAllowedIn}
 use Rattle.md_report.specs.ItemLines.{IsAllowed}
 use Rattle.md_checker.specs.States.{IsStateText}
+use Rattle.md_checker.proofs.ClassEdits.{allowed_cograph}
 use Rattle.std.specs.List.{list_any}
 
 mutual
@@ -75,13 +75,9 @@ cograph_fits g is o told by holds (Err e) may = tt
 
 -- ---- a tree that is read, of a class of graphs
 
--- a graph of a class is a cograph
-pub class_is_cograph : (class : Class) (g : PlainGraph) → IsAllowedIn class g → IsCograph g
-class_is_cograph class g free path = free (record { kind = kinds.P4; a = path.0; b = path.1; c = path.2; d = path.3 }, record { bars = tt; is = path.4 })
-
 pub prime_bars : (class : Class) (g : PlainGraph) → IsGraph g → (o : Option PlainTree) (told : Bool) → (IsTrue told ↔ HasNoPrime o) → told ≡ false → IsTrue false ↔ (IsAllowedIn class g × IsTree (adjacent g) g.vertices o)
 prime_bars class g is o told by fails =
-    let refused = prime_refused g is o told by fails in ((λ so. absurd (clash so refl)), (λ both. refused.1 (class_is_cograph class g both.0, both.1)))
+    let refused = prime_refused g is o told by fails in ((λ so. absurd (clash so refl)), (λ both. refused.1 (allowed_cograph class g both.0, both.1)))
 
 module _ (class : Class) (g : PlainGraph) (is : IsGraph g) (o : Option PlainTree) (found : Option Bar) where
   pub bar_refused : IfSome found (λ bar. (e : ℕ → ℕ → Bool) (s : NameSet) → IsAdjacency e → IsTree e s o → IsBar class e s bar) → is_some found ≡ true → IsTrue false ↔ (IsAllowedIn class g × IsTree (adjacent g) g.vertices o)
