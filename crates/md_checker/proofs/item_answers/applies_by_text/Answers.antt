@@ -1,10 +1,15 @@
-use Rattle.std.proofs.Common.{◌∷◌, [], ◌∙◌, ◌*◌, List, codes, IfOk, IsTrue, refl, sym, ap, subst}
+use Rattle.std.proofs.Common.{◌∷◌, [], ◌∙◌, ◌*◌, List, codes, IfOk, IsTrue, refl, rules, sym, ap, subst}
 use Rattle.md_script.specs.declared.edit.Edit.{Edit}
 use Rattle.md_script.specs.Pasts.{as_edit}
+use Rattle.md_script.proofs.BackLemmas.{led}
 use Rattle.md_checker.specs.States.{IsStateText}
 use Rattle.md_checker.proofs.Judged.{if_true}
 use Rattle.md_checker.proofs.Taking.{edit_taken, text_judged}
 use Rattle.md_checker.proofs.item_answers.applies_by_text.Goals as goal
+
+pub is_led_text-fit-requires : goal.is_led_text-fit-requires
+is_led_text-fit-requires g c =
+    (search rules, (c.args.graph.now, led c.args.graph.now _ _ c.inverse-past.ensures.graph c.requires.names (sym c.reason.ensures ∙ c.in_default.is) c.apply.ensures, c.requires.allowed))
 
 pub returns-then-is_true-clause-takes : goal.returns-then-is_true-clause-takes
 returns-then-is_true-clause-takes g c =
