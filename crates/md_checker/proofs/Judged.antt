@@ -15,7 +15,7 @@ use Rattle.md_script.specs.declared.item.Item.TheVariants.{One, Undo, Group}
 use Rattle.md_script.specs.Edit.{HasNamesBelow, reason_of, after}
 use Rattle.md_script.specs.Pasts.{taken_back, MayBack, AnyGraph, HasApplied, TakesBack}
 use Rattle.md_script.specs.Histories.{HistoryFits}
-use Rattle.md_script.proofs.GroupLemmas.{GoesBack, kept_goes_back, one_goes_back}
+use Rattle.md_script.proofs.GroupLemmas.{GoesBack, kept_goes_back, one_goes_back, back_weaker, back_kept}
 use Rattle.md_report.specs.declared.line.SessionMode.{SessionMode}
 use Rattle.md_report.specs.Cographs.{IsCograph, IsP4Of}
 use Rattle.md_report.specs.Lines.{PlainLine, refused, refused_bar, group_refused, group_refused_bar}
@@ -38,13 +38,7 @@ if_false (Err e) b P told lacks p = tt
 
 -- edits that can be taken back in some way can be taken back in any
 pub any_back : (limit : ℕ) (Kept : PlainGraph → Type 0) (g : PlainGraph) (edits : List script.Edit) → MayBack limit Kept g edits → MayBack limit AnyGraph g edits
-any_back limit Kept g [] may = tt
-any_back limit Kept g (edit ∷ edits) may = (any_back limit Kept g edits may.0, (may.1.0, (may.1.1.0, tt)))
-
--- the graph before edits that can be taken back is one of those that may be kept
-pub back_kept : (limit : ℕ) (Kept : PlainGraph → Type 0) (g : PlainGraph) (edits : List script.Edit) → Kept g → MayBack limit Kept g edits → Kept (taken_back g edits)
-back_kept limit Kept g [] kept may = kept
-back_kept limit Kept g (edit ∷ edits) kept may = may.1.1.1
+any_back limit Kept = back_weaker limit Kept AnyGraph (λ k kept. tt)
 
 module _ (limit : ℕ) (mode : SessionMode) (g : PlainGraph) (items : List (List script.Edit)) (line : PlainLine) (h : PlainGraph) (left : List (List script.Edit)) (fits : HistoryFits limit (IsAllowed mode) g items) (allowed : IsAllowed mode g) where
   -- a line that refuses the item, exactly where it has this form

@@ -26,3 +26,5 @@ mod Taking
 mod Cotrees
 mod Splitting
 mod PathLines
+mod LineTrees
+mod ClassEdits

@@ -14,6 +14,7 @@ use Rattle.md_report.specs.Cographs.{IsCograph}
 use Rattle.md_report.specs.Sessions.{State, first_state}
 use Rattle.md_report.specs.Lines.{PlainLine, line_text}
 use Rattle.md_report.specs.WellFormedLines.{IsWellFormedLine}
+use Rattle.md_bar.specs.ClassLines.{IsWellFormedClass}
 use Rattle.md_report.specs.ItemLines.{IsAllowed}
 use Rattle.md_report.specs.Places.{Place, at_state, at_items, closed_place, ClosesItems, MayCome, next_place}
 use Rattle.md_report.specs.Steps.{state_of}
@@ -79,9 +80,17 @@ text_may (Ok taken) p l text is may =
     ((λ yes. (l, may.0 yes, is)), λ some. may.1 (subst (MayCome p) (one_line_proof some.0 l (sym some.2 ∙ is)) some.1))
 text_may (Err e) p l text is may = tt
 
-pub none_may : (p : Place) (text : List ℕ) → IsSound p → ((line : PlainLine) → IsWellFormedLine line → text ≢ line_text line) →
+-- the same with the place behind it
+pub text_next : {E : Type 0} (r : Result Bool E) (p q : Place) (l : PlainLine) (text : List ℕ) → text ≡ line_text l → IfOk r (λ taken. IsTrue taken ↔ MayCome p l) → IfOk r (λ taken. q ≡ (if taken then next_place p l else p))
+    → IfOk r (λ taken. IsTrue taken → (line : PlainLine) × MayCome p line × (text ≡ line_text line) × (q ≡ next_place p line))
+text_next (Ok true) p q l text is may next = λ yes. (l, may.0 yes, is, next)
+text_next (Ok false) p q l text is may next = λ yes. absurd (clash yes refl)
+text_next (Err e) p q l text is may next = tt
+
+-- a text of no well-formed line
+pub none_may : (p : Place) (text : List ℕ) → IsSound p → ((line : PlainLine) → IsWellFormedLine line → text ≢ line_text line) → ((line : PlainLine) → IsWellFormedClass line → text ≢ line_text line) →
     ((line : PlainLine) × MayCome p line × (text ≡ line_text line)) → ⊥
-none_may p text sound none some = none some.0 (coming_good p sound some.0 some.1) some.2
+none_may p text sound none other some = elim (coming_good p sound some.0 some.1) [ inl good ↦ none some.0 good some.2 | inr good ↦ other some.0 good some.2 ]
 
 -- the place behind a line that was taken by its text is sound
 pub taken_sound : {E : Type 0} (r : Result Bool E) (p q : Place) (text : List ℕ) → IsSound p → IfOk r (λ taken. IsTrue taken → Takes p text q) → IfOk r (λ taken. ¬ IsTrue taken → q ≡ p) → (IsErr r → q ≡ p) → IsSound q

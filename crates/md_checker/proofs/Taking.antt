@@ -17,7 +17,7 @@ use Rattle.md_comparability.specs.Orientations.{HasTransitiveOrientation, IsLeas
 use Rattle.md_report.specs.declared.line.GraphMode.{GraphMode}
 use Rattle.md_report.specs.declared.line.GraphMode.TheVariants as graph_modes
 use Rattle.md_report.specs.declared.line.SessionMode.{SessionMode}
-use Rattle.md_report.specs.declared.line.SessionMode.TheVariants.{Edit, Cograph, Quiet}
+use Rattle.md_report.specs.declared.line.SessionMode.TheVariants.{Edit, Cograph, Quiet, Of}
 use Rattle.md_report.specs.Lines.{PlainLine, tree, applied, oriented, arcs_text, line_text}
 use Rattle.md_report.specs.Orientations.{IsShortestLine}
 use Rattle.md_report.specs.Sessions.{State, first_state}
@@ -53,20 +53,16 @@ shortest_reports mode g arcs text is has least spelled =
 pub first_taken : (mode : SessionMode) (g : PlainGraph) (items : List Item) (text : List ℕ) → (mode ≡ Quiet → ⊥) → IsStateText mode g (codes "t ") text →
     Takes (at_state mode g items) text (at_items mode (first_state g) items)
 first_taken Edit g items text told s = (tree (Some s.tree), (Some s.tree, s.fits, refl), s.spelled, refl)
-first_taken Cograph g items text told s = (tree (Some s.tree), inr (s.cograph (λ e. cc), (Some s.tree, s.fits, refl)), s.spelled, refl)
+first_taken Cograph g items text told s = (tree (Some s.tree), inr (s.allowed, (Some s.tree, s.fits, refl)), s.spelled, refl)
 first_taken Quiet g items text told s = absurd (told refl)
-
--- a graph of whose tree a text is may be a state
-pub text_allowed : (mode : SessionMode) (g : PlainGraph) (word text : List ℕ) → IsStateText mode g word text → IsAllowed mode g
-text_allowed Edit g word text s = tt
-text_allowed Cograph g word text s = s.cograph (λ e. cc)
-text_allowed Quiet g word text s = s.cograph (λ e. cc)
+first_taken (Of class) g items text told s = (tree (Some s.tree), inr (s.allowed, (Some s.tree, s.fits, refl)), s.spelled, refl)
 
 -- the tree of the graph after an edit
 text_done : (mode : SessionMode) (g : PlainGraph) (text : List ℕ) → (mode ≡ Quiet → ⊥) → (s : IsStateText mode g (codes "ok ") text) → IsDoneLine mode g (applied (Some s.tree))
 text_done Edit g text told s = (Some s.tree, s.fits, refl)
 text_done Cograph g text told s = (Some s.tree, s.fits, refl)
 text_done Quiet g text told s = absurd (told refl)
+text_done (Of class) g text told s = (Some s.tree, s.fits, refl)
 
 -- the edit is a step that the text tells
 pub edit_taken : (limit : ℕ) (mode : SessionMode) (g h : PlainGraph) (items left : List (List script.Edit)) (edit : script.Edit) (text : List ℕ) (told : mode ≡ Quiet → ⊥) (s : IsStateText mode h (codes "ok ") text)
@@ -77,7 +73,7 @@ edit_taken limit mode g h items left edit text told s judged more =
 pub text_judged : (limit : ℕ) (mode : SessionMode) (g h : PlainGraph) (items left : List (List script.Edit)) (edit back : script.Edit) (text : List ℕ) (told : mode ≡ Quiet → ⊥) → HistoryFits limit (IsAllowed mode) g items → IsAllowed mode g → reason_of g edit ≡ None
     → h ≡ after g edit → TakesBack limit g edit back → (s : IsStateText mode h (codes "ok ") text) → left ≡ (back ∷ []) ∷ items → IsJudged true limit mode g items (One edit) (applied (Some s.tree)) h left
 text_judged limit mode g h items left edit back text told fits allowed none next takes s is =
-    judged_edit limit mode g items (applied (Some s.tree)) h left fits allowed edit none h back next takes (text_allowed mode h (codes "ok ") text s) (text_done mode h text told s) refl is
+    judged_edit limit mode g items (applied (Some s.tree)) h left fits allowed edit none h back next takes s.allowed (text_done mode h text told s) refl is
 
 -- the tree of the last graph of a session in mode quiet
 last_taken : (due : SessionDue) (mode : SessionMode) (s : State) (text : List ℕ) → (due ≡ state_due) ⊎ (due ≡ Items) → (due ≡ state_due → s.earlier ≡ []) → mode ≡ Quiet → IsStateText mode s.graph (codes "t ") text →
@@ -85,7 +81,7 @@ last_taken : (due : SessionDue) (mode : SessionMode) (s : State) (text : List �
 last_taken due mode s text at first quiet t =
     subst (λ m. Takes (session_place due m s []) text at_end) (sym quiet)
     (elim at [
-      | inl is ↦ subst (λ d. Takes (session_place d Quiet s []) text at_end) (sym is) (tree (Some t.tree), inr (t.cograph (λ e. (let f = sym quiet ∙ e in cc)), (Some t.tree, t.fits, refl)), t.spelled, refl)
+      | inl is ↦ subst (λ d. Takes (session_place d Quiet s []) text at_end) (sym is) (tree (Some t.tree), inr (subst (λ m. IsAllowed m s.graph) quiet t.allowed, (Some t.tree, t.fits, refl)), t.spelled, refl)
       | inr is ↦ subst (λ d. Takes (session_place d Quiet s []) text at_end) (sym is) (tree (Some t.tree), (Some t.tree, t.fits, refl), t.spelled, refl)
     ])
 

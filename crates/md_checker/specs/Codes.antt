@@ -12,7 +12,8 @@ use Rattle.md_script.specs.Histories.{edit_code}
 use Rattle.md_report.specs.declared.line.GraphMode.{GraphMode}
 use Rattle.md_report.specs.declared.line.GraphMode.TheVariants.{Tree, Compare, Shortest, Permute}
 use Rattle.md_report.specs.declared.line.SessionMode.{SessionMode}
-use Rattle.md_report.specs.declared.line.SessionMode.TheVariants.{Edit, Cograph, Quiet}
+use Rattle.md_report.specs.declared.line.SessionMode.TheVariants.{Edit, Cograph, Quiet, Of}
+use Rattle.md_bar_tree.specs.declared.Class.TheVariants.{Trivial, Threshold}
 use Rattle.md_report.specs.Sessions.{State}
 use Rattle.md_report.specs.Places.{Place, before_head, at_graphs, before_session, at_state, at_items, at_end, after_end}
 
@@ -43,16 +44,22 @@ abbrev pub session_mode_number : SessionMode → ℕ
 session_mode_number Edit = 0
 session_mode_number Cograph = 1
 session_mode_number Quiet = 2
+session_mode_number (Of Trivial) = 3
+session_mode_number (Of Threshold) = 4
 
 abbrev pub session_mode_at : ℕ → SessionMode
 session_mode_at zero = Edit
 session_mode_at (suc zero) = Cograph
-session_mode_at (suc (suc n)) = Quiet
+session_mode_at (suc (suc zero)) = Quiet
+session_mode_at (suc (suc (suc zero))) = Of Trivial
+session_mode_at (suc (suc (suc (suc n)))) = Of Threshold
 
 pub session_mode_back : (mode : SessionMode) → session_mode_at (session_mode_number mode) ≡ mode
 session_mode_back Edit = refl
 session_mode_back Cograph = refl
 session_mode_back Quiet = refl
+session_mode_back (Of Trivial) = refl
+session_mode_back (Of Threshold) = refl
 
 abbrev pub session_mode_code : Coded SessionMode
 session_mode_code = code_by ℕ coded_ℕ session_mode_number session_mode_at session_mode_back

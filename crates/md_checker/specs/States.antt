@@ -6,12 +6,11 @@ use Rattle.md_tree.specs.Trees.{PlainTree}
 use Rattle.md_tree.specs.StrongTrees.{IsTreeOf}
 use Rattle.md_tree.specs.TreeTexts.{tree_text}
 use Rattle.md_report.specs.declared.line.SessionMode.{SessionMode}
-use Rattle.md_report.specs.declared.line.SessionMode.TheVariants.{Edit}
-use Rattle.md_report.specs.Cographs.{IsCograph}
+use Rattle.md_report.specs.ItemLines.{IsAllowed}
 
 -- the text is the word and behind it that of the tree of g, which may be a state of a session of the mode
 pub record IsStateText (mode : SessionMode) (g : PlainGraph) (word text : List ℕ) : Type 0 where
-  pub cograph : (mode ≡ Edit → ⊥) → IsCograph g
+  pub allowed : IsAllowed mode g
   pub tree : PlainTree
   pub fits : IsTreeOf (adjacent g) g.vertices tree
   pub spelled : text ≡ word ++ tree_text tree

@@ -1,5 +1,5 @@
 //! Checks the lines of a report, one after the other.
-ghost use Rattle.std.specs.Prelude.{◌≡◌, ◌↔◌, List, [], ◌∷◌, None, if◌then◌else◌, IfOk, IfErr, IsErr, IsTrue};
+ghost use Rattle.std.specs.Prelude.{◌≡◌, ◌≢◌, ◌↔◌, List, [], ◌∷◌, None, if◌then◌else◌, IfOk, IfErr, IsErr, IsTrue};
 ghost use Rattle.std.specs.Option.{option_or};
 ghost use Rattle.md_graph.specs.PlainGraph.{PlainGraph};
 ghost use Rattle.md_script.specs.declared.item.Item.{Item};
@@ -18,6 +18,7 @@ use crate::graph_checker::GraphChecker;
 use crate::line_judge::LineJudge;
 use crate::report_line::ReportLine;
 use crate::session_checker::SessionChecker;
+use md_bar::read_class;
 use md_graph::{Memory, WORDS};
 use md_input::{Format, Graphs, InputStop, SessionInputs, session_inputs};
 use md_report::{GraphMode, Line, LineFault, SessionMode, read_line};
@@ -125,7 +126,19 @@ impl<'a> Checker<'a> {
             ≡ (if taken then next_place self.old (plain_line line.now) else self.old)) }
         ensures stays { IsErr result → self.new ≡ self.old }
     {
-        self.inner.feed(alloc, &ReportLine::Plain(line))
+        self.feed_line(alloc, &ReportLine::Plain(line))
+    }
+
+    // The same of a line of any report. Condition: the line's tree is well-formed.
+    fn feed_line(&mut self, alloc: Global, line: &ReportLine<'_>) -> Result<bool, Memory>
+        requires { HasWellFormedTree (plain_report_line line.now) }
+        ensures may { IfOk result (λ taken.
+            IsTrue taken ↔ MayCome self.old (plain_report_line line.now)) }
+        ensures next { IfOk result (λ taken. self.new
+            ≡ (if taken then next_place self.old (plain_report_line line.now) else self.old)) }
+        ensures stays { IsErr result → self.new ≡ self.old }
+    {
+        self.inner.feed(alloc, line)
     }
 
     // Whether the text is that of the tree or the orientation that is due: the line is then taken,
@@ -152,6 +165,26 @@ impl<'a> Checker<'a> {
         let _inner = &self.inner;
         match read_line(alloc, text) {
             Ok(line) => self.feed(alloc, &line),
+            Err(LineFault::Syntax) => self.feed_class(alloc, text),
+            Err(LineFault::Memory) => Err(Memory),
+        }
+    }
+
+    // The same of a text that is none of a well-formed line of sessions on all graphs, nor of
+    // reports over graphs.
+    fn feed_class(&mut self, alloc: Global, text: &[u8]) -> Result<bool, Memory>
+        requires { (line : PlainLine) → IsWellFormedLine line → text.now ≢ line_text line }
+        ensures may { IfOk result (λ taken. IsTrue taken
+            ↔ ((line : PlainLine) × MayCome self.old line × (text.now ≡ line_text line))) }
+        ensures next { IfOk result (λ taken. IsTrue taken
+            → (line : PlainLine) × MayCome self.old line × (text.now ≡ line_text line)
+            × (self.new ≡ next_place self.old line)) }
+        ensures refused { IfOk result (λ taken. ¬ IsTrue taken → self.new ≡ self.old) }
+        ensures stays { IsErr result → self.new ≡ self.old }
+    {
+        let _inner = &self.inner;
+        match read_class(alloc, text) {
+            Ok(line) => self.feed_line(alloc, &ReportLine::of_class(&line)),
             Err(LineFault::Syntax) => Ok(false),
             Err(LineFault::Memory) => Err(Memory),
         }

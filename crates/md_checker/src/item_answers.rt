@@ -1,6 +1,6 @@
 //! Whether a line answers an item of a script. The session's state is kept as the graph and what
 //! leads back to the earlier ones; nothing is copied.
-ghost use Rattle.std.specs.Prelude.{◌≡◌, ◌*◌, ◌+◌, ◌≤◌, ◌↔◌, List, [], ◌∷◌, length, None, Some, Ok, true, if◌then◌else◌, slice_get, IfOk, IsErr, IsTrue};
+ghost use Rattle.std.specs.Prelude.{◌≡◌, ◌*◌, ◌+◌, ◌≤◌, ◌↔◌, List, [], ◌∷◌, length, codes, None, Some, Ok, true, if◌then◌else◌, slice_get, IfOk, IsErr, IsTrue};
 ghost use Rattle.std.specs.List.{All};
 ghost use Rattle.md_graph.specs.PlainGraph.{PlainGraph};
 ghost use Rattle.md_bar_tree.specs.declared.Bar.{Bar};
@@ -14,6 +14,7 @@ ghost use Rattle.md_script.specs.Histories.{HistoryFits};
 ghost use Rattle.md_report.specs.declared.line.SessionMode.TheVariants.{Quiet};
 ghost use Rattle.md_report.specs.Lines.{applied, applied_quiet, refused, refused_bar, group_refused, group_refused_bar, nothing_to_undo};
 ghost use Rattle.md_report.specs.Cographs.{IsCograph};
+ghost use Rattle.md_report.specs.Classes.{IsAllowedIn};
 ghost use Rattle.md_report.specs.Sessions.{HasTreeLine};
 ghost use Rattle.md_report.specs.ItemLines.{IsAllowed, IsBarred, IsDoneLine};
 ghost use Rattle.md_report.specs.Places.{at_items};
@@ -21,11 +22,16 @@ ghost use Rattle.md_report.specs.Steps.{state_of};
 ghost use Rattle.md_checker.specs.Judged.{IsJudged, IsTried};
 ghost use Rattle.md_checker.specs.ReportLines.{plain_report_line, HasWellFormedTree};
 ghost use Rattle.md_checker.specs.Standing.{Takes};
+ghost use Rattle.md_checker.specs.States.{IsStateText};
 
-use crate::judgements::{bars_state, is_tree_of_cograph, is_true, is_word_and_state};
+use crate::class_test::makes_bar;
+use crate::judgements::{
+    bars_state, is_tree_of_class, is_tree_of_cograph, is_true, is_word_and_state,
+};
 use crate::report_line::ReportLine;
+use crate::text_fit::is_word_and_tree;
 use crate::tree_fit::fits;
-use md_bar::Bar;
+use md_bar::{Bar, Class};
 use md_graph::{GraphOf, Memory};
 use md_report::{Line, SessionMode, made_p4};
 use md_script::{
@@ -151,6 +157,7 @@ fn is_led_line<const W: usize>(
         SessionMode::Edit => is_applied_tree(alloc, graph, line),
         SessionMode::Cograph => is_applied_cotree(alloc, graph, line),
         SessionMode::Quiet => Ok(is_applied_quiet(line) && !is_barred(mode, graph, edit)),
+        SessionMode::Of(class) => is_applied_tree_of_class(alloc, class, graph, line),
     }
 }
 
@@ -170,6 +177,7 @@ fn is_done_line<const W: usize>(
         SessionMode::Edit => is_applied_tree(alloc, graph, line),
         SessionMode::Cograph => is_applied_tree(alloc, graph, line),
         SessionMode::Quiet => Ok(is_applied_quiet(line)),
+        SessionMode::Of(_) => is_applied_tree(alloc, graph, line),
     }
 }
 
@@ -206,6 +214,23 @@ fn is_applied_cotree<const W: usize>(
     }
 }
 
+// The same, and the graph is of the class.
+fn is_applied_tree_of_class<const W: usize>(
+    alloc: Global,
+    class: Class,
+    graph: &GraphOf<W>,
+    line: &ReportLine<'_>,
+) -> Result<bool, Memory>
+    requires { HasWellFormedTree (plain_report_line line.now) }
+    ensures { IfOk result (λ fit. IsTrue fit ↔ (IsAllowedIn class graph.now
+        × HasTreeLine applied graph.now (plain_report_line line.now))) }
+{
+    match line {
+        ReportLine::Plain(Line::Applied(tree)) => is_tree_of_class(alloc, class, graph, tree),
+        _ => Ok(false),
+    }
+}
+
 // Whether the line tells that an item was applied, without a tree.
 fn is_applied_quiet(line: &ReportLine<'_>) -> bool
     ensures { IsTrue result ↔ plain_report_line line.now ≡ applied_quiet }
@@ -227,6 +252,7 @@ fn is_barred<const W: usize>(mode: SessionMode, graph: &GraphOf<W>, edit: &Edit)
         SessionMode::Edit => false,
         SessionMode::Cograph => made_p4(graph, edit).is_some(),
         SessionMode::Quiet => made_p4(graph, edit).is_some(),
+        SessionMode::Of(class) => makes_bar(graph, class, edit),
     }
 }
 
@@ -449,7 +475,7 @@ pub(crate) fn applies_by_text<const W: usize>(
     history.reserve(alloc, 2)?;
     let past = inverse(graph, edit);
     apply(graph, edit);
-    let fit = is_word_and_state(alloc, mode, graph, b"ok ", text);
+    let fit = is_led_text(alloc, mode, graph, edit, text);
     if is_true(&fit) {
         history.open_item();
         history.push(past);
@@ -457,4 +483,26 @@ pub(crate) fn applies_by_text<const W: usize>(
     }
     take_back(graph, &past);
     fit
+}
+
+// Whether the text is that of a line that tells the tree of the graph, to which the edit led, and
+// which may be a state of a session of the mode; a false says nothing. Condition: the graph before
+// was such a state.
+fn is_led_text<const W: usize>(
+    alloc: Global,
+    mode: SessionMode,
+    graph: &GraphOf<W>,
+    edit: &Edit,
+    text: &[u8],
+) -> Result<bool, Memory>
+    requires led { (g : PlainGraph) × Led (64 * W) g edit.now graph.now × IsAllowed mode g }
+    ensures { IfOk result (λ fit. IsTrue fit
+        → IsStateText mode graph.now (codes "ok ") text.now) }
+{
+    match mode {
+        SessionMode::Of(class) => {
+            Ok(is_word_and_tree(alloc, graph, b"ok ", text)? && !makes_bar(graph, class, edit))
+        }
+        _ => is_word_and_state(alloc, mode, graph, b"ok ", text),
+    }
 }

@@ -7,12 +7,13 @@ ghost use Rattle.md_forcing.specs.Sides.{adjacent_on};
 ghost use Rattle.md_tree.specs.Plain.{plain_option};
 ghost use Rattle.md_tree.specs.StrongTrees.{IsTree};
 ghost use Rattle.md_tree.specs.WellFormed.{IsWellFormed};
-ghost use Rattle.md_report.specs.Lines.{tree, not_cograph};
+ghost use Rattle.md_report.specs.Lines.{tree, barred, not_cograph};
 ghost use Rattle.md_report.specs.Places.{Reports, ReportsState, ClosesItems};
 ghost use Rattle.md_report.specs.Sessions.{HasTreeLine};
 ghost use Rattle.md_report.specs.Orientations.{IsOrientationLine, IsShortestLine};
 ghost use Rattle.md_report.specs.Models.{IsModelLine};
 ghost use Rattle.md_report.specs.Cographs.{IsPathOf, IsCograph, HasP4Line, IsOpeningLine};
+ghost use Rattle.md_report.specs.Classes.{IsAllowedIn, HasBarLine, IsClassOpening};
 ghost use Rattle.md_report.specs.ItemLines.{IsBarred};
 ghost use Rattle.md_checker.specs.ReportLines.{plain_report_line, HasWellFormedTree};
 ghost use Rattle.md_checker.specs.States.{IsStateText};
@@ -22,7 +23,7 @@ use crate::fixed_lines::is_end;
 use crate::report_line::ReportLine;
 use crate::text_fit::{is_word_and_cotree, is_word_and_tree};
 use crate::tree_fit::fits;
-use md_bar::{Bar, BarKind};
+use md_bar::{Bar, BarKind, Class, bar_of, is_bar};
 use md_comparability::{ClassOrChosen, orient_classes};
 use md_forcing::{Chain, Side};
 use md_graph::{Graph, GraphOf, Memory};
@@ -182,11 +183,13 @@ pub(crate) fn reports_state<const W: usize>(
         SessionMode::Edit => is_tree_line(alloc, graph, line),
         SessionMode::Cograph => is_opening_line(alloc, graph, line),
         SessionMode::Quiet => Ok(is_path_line(graph, line)),
+        SessionMode::Of(class) => is_class_opening(alloc, class, graph, line),
     }
 }
 
 // Whether the text is the word and behind it that of the tree of the graph, which may be a state of
-// a session of the mode; a false says nothing.
+// a session of the mode; a false says nothing. On a class it is always false, since the text alone
+// shows no bar.
 pub(crate) fn is_word_and_state<const W: usize>(
     alloc: Global,
     mode: SessionMode,
@@ -200,6 +203,7 @@ pub(crate) fn is_word_and_state<const W: usize>(
         SessionMode::Edit => is_word_and_tree(alloc, graph, word, text),
         SessionMode::Cograph => is_word_and_cotree(alloc, graph, word, text),
         SessionMode::Quiet => is_word_and_cotree(alloc, graph, word, text),
+        SessionMode::Of(_) => Ok(false),
     }
 }
 
@@ -221,6 +225,7 @@ pub(crate) fn bars_state<const W: usize>(mode: SessionMode, graph: &GraphOf<W>, 
         SessionMode::Edit => false,
         SessionMode::Cograph => is_path(graph, bar),
         SessionMode::Quiet => is_path(graph, bar),
+        SessionMode::Of(class) => is_bar(graph, class, bar),
     }
 }
 
@@ -247,6 +252,7 @@ pub(crate) fn closes_items<const W: usize>(
     match mode {
         SessionMode::Edit => Ok(is_end(line)),
         SessionMode::Cograph => Ok(is_end(line)),
+        SessionMode::Of(_) => Ok(is_end(line)),
         SessionMode::Quiet => is_tree_line(alloc, graph, line),
     }
 }
@@ -265,6 +271,55 @@ fn is_opening_line<const W: usize>(
         ReportLine::Plain(Line::Tree(tree)) => is_tree_of_cograph(alloc, graph, tree),
         _ => Ok(is_path_line(graph, line)),
     }
+}
+
+// Whether the line tells of a bar of the class in the graph, or of its tree where it is of the class.
+// Condition: the line's tree is well-formed.
+fn is_class_opening<const W: usize>(
+    alloc: Global,
+    class: Class,
+    graph: &GraphOf<W>,
+    line: &ReportLine<'_>,
+) -> Result<bool, Memory>
+    requires { HasWellFormedTree (plain_report_line line.now) }
+    ensures { IfOk result (λ fit. IsTrue fit
+        ↔ IsClassOpening class graph.now (plain_report_line line.now)) }
+{
+    match line {
+        ReportLine::Plain(Line::Tree(tree)) => is_tree_of_class(alloc, class, graph, tree),
+        _ => Ok(is_bar_line(class, graph, line)),
+    }
+}
+
+// Whether the line tells of a bar of the class in the graph.
+fn is_bar_line<const W: usize>(class: Class, graph: &GraphOf<W>, line: &ReportLine<'_>) -> bool
+    ensures { IsTrue result ↔ HasBarLine class barred graph.now (plain_report_line line.now) }
+{
+    match line.first_bar() {
+        Some(bar) => is_bar(graph, class, &bar),
+        None => false,
+    }
+}
+
+// Whether the graph is of the class, and the tree is that of it.
+pub(crate) fn is_tree_of_class<const W: usize>(
+    alloc: Global,
+    class: Class,
+    graph: &GraphOf<W>,
+    tree: &Option<Tree>,
+) -> Result<bool, Memory>
+    requires { IsWellFormed (plain_option tree.now) }
+    ensures { IfOk result (λ fit. IsTrue fit ↔ (IsAllowedIn class graph.now
+        × IsTree (adjacent graph.now) graph.now.vertices (plain_option tree.now))) }
+{
+    let _vertices = graph.vertices();
+    if !has_no_prime(tree) {
+        return Ok(false);
+    }
+    if bar_of(tree, class).is_some() {
+        return Ok(false);
+    }
+    fits(alloc, graph, tree)
 }
 
 // Whether the graph is a cograph, and the tree is that of it.

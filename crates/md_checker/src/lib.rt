@@ -7,6 +7,7 @@ mod arc_text;
 mod certificates;
 mod check;
 mod checker;
+mod class_test;
 mod cograph_test;
 mod due_graph;
 mod fixed_lines;

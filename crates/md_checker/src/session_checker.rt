@@ -14,7 +14,7 @@ ghost use Rattle.md_checker.specs.ReportLines.{plain_report_line, HasWellFormedT
 ghost use Rattle.md_checker.specs.Standing.{session_place, IsStep, MayTell, Takes};
 
 use crate::cograph_test::is_cograph;
-use crate::fixed_lines::{is_end, is_head};
+use crate::fixed_lines::{is_end, is_session_head};
 use crate::item_answers::{answers_item, applies_by_text};
 use crate::judgements::{closes_items, is_word_and_state, reports_state};
 use crate::report_line::ReportLine;
@@ -177,7 +177,7 @@ impl<const W: usize> SessionChecker<W> {
     {
         match self.due {
             SessionDue::Head => {
-                if !is_head(line, self.mode.mode()) {
+                if !is_session_head(line, self.mode) {
                     return Ok(false);
                 }
                 self.due = SessionDue::State;
@@ -247,6 +247,7 @@ fn opens<const W: usize>(
         SessionMode::Edit => opens_told(alloc, mode, graph, history, script, answered, line),
         SessionMode::Cograph => opens_told(alloc, mode, graph, history, script, answered, line),
         SessionMode::Quiet => opens_quiet(alloc, graph, history, script, answered, line),
+        SessionMode::Of(_) => opens_told(alloc, mode, graph, history, script, answered, line),
     }
 }
 
@@ -403,6 +404,7 @@ fn due_behind_items(mode: SessionMode) -> SessionDue
     match mode {
         SessionMode::Edit => SessionDue::Nothing,
         SessionMode::Cograph => SessionDue::Nothing,
+        SessionMode::Of(_) => SessionDue::Nothing,
         SessionMode::Quiet => SessionDue::End,
     }
 }

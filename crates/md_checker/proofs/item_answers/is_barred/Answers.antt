@@ -19,3 +19,13 @@ returns-in-Cograph-clause-barred g c = λ is allowed.
 pub returns-in-Quiet-clause-barred : goal.returns-in-Quiet-clause-barred
 returns-in-Quiet-clause-barred g c = λ is allowed.
     some_bars c.made_p4-in-Quiet.result c.args.graph.now _ c.made_p4-in-Quiet.ensures.found (sym c.is_some-in-Quiet.ensures ∙ is) (subst (λ (m : SessionMode). IsAllowed m c.args.graph.now) c.in-Quiet.is allowed)
+
+pub makes_bar-requires : goal.makes_bar-requires
+makes_bar-requires g c =
+    let r = c.requires in (search rules, (r.0, r.1, subst (λ (m : SessionMode). IsAllowed m r.0) c.in-Of.is r.2))
+
+pub returns-in-Of-clause-barred : goal.returns-in-Of-clause-barred
+returns-in-Of-clause-barred g c = λ is allowed. c.makes_bar.ensures.barred is (subst (λ (m : SessionMode). IsAllowed m c.args.graph.now) c.in-Of.is allowed)
+
+pub returns-in-Of-clause-allowed : goal.returns-in-Of-clause-allowed
+returns-in-Of-clause-allowed g c = λ none. rw c.in-Of.is (c.makes_bar.ensures.allowed none)

@@ -6,3 +6,6 @@ returns-in-Edit g c = rw c.in-Edit.is (told_and_any c.is_applied_tree.result _ c
 
 pub returns-in-Cograph : goal.returns-in-Cograph
 returns-in-Cograph g c = rw c.in-Cograph.is c.is_applied_cotree.ensures
+
+pub returns-in-Of : goal.returns-in-Of
+returns-in-Of g c = rw c.in-Of.is c.is_applied_tree_of_class.ensures
