@@ -1,5 +1,6 @@
 //! Worked runs over files and sinks in memory.
 mod checks;
+mod classes;
 mod directed;
 mod failing;
 mod flushes;

@@ -6,7 +6,7 @@ use std::process::Abort;
 use std::test::Fail;
 
 // A run over the files `g`, `s` and `r`: its status, and what stands on `out` and on `err`.
-fn check_over(
+pub(super) fn check_over(
     alloc: Global,
     line: &str,
     file: &[u8],
