@@ -29,11 +29,7 @@ fn reports_on_trivially_perfect_graphs(rt: HostRuntime) {
             b"mdt trivial\nt P(S(0,1),S(2,3))\nno p4 0 1 2 3\nok P(S(0,1,4),S(2,3))\nend\n",
             accepted,
         ),
-        (
-            edges,
-            b"mdt threshold\n",
-            CheckAnswer::Rejected(1),
-        ),
+        (edges, b"mdt threshold\n", CheckAnswer::Rejected(1)),
         (
             edges,
             b"mdt trivial\nt P(S(0,1),S(2,3))\nno 2k2 0 1 2 3\n",
