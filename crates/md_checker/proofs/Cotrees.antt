@@ -1,4 +1,4 @@
--- The text of a tree without the letter of prime nodes is that of a cotree, and the graph is a cograph.
+-- Whether a tree that is read is that of a graph which is a cograph, or of a class.
 use Rattle.std.proofs.Common.{◌≡◌, ◌↔◌, ℕ, Bool, true, false, ◌||◌, eqb, eq-eqb, List, [], ◌∷◌, ◌++◌, Option, None, Some, Result, Ok, Err, IfOk, IfNone, IsTrue, refl, sym, ap, subst, inl, inr}
 use Rattle.std.specs.Prelude.{IfSome, is_some}
 use Rattle.md_graph.specs.declared.Memory.{Memory}
@@ -25,42 +25,6 @@ use Rattle.md_report.specs.ItemLines.{IsAllowed}
 use Rattle.md_checker.specs.States.{IsStateText}
 use Rattle.md_checker.proofs.ClassEdits.{allowed_cograph}
 use Rattle.std.specs.List.{list_any}
-
-mutual
-  no_prime : (t : PlainTree) → (In (tree_text t) 82 → ⊥) → HasNoPrimeNode t
-  no_prime (leaf v) lacks = tt
-  no_prime (node k cs ps) lacks = (
-    (λ is. lacks (inl (sym (ap letter is)))),
-    none_prime 40 cs (λ i. lacks (inr (in_left (row_text 40 cs) (pairs_text 59 ps ++ 41 ∷ []) 82 i))),
-  )
-
-  none_prime : (mark : ℕ) (ts : PlainTrees) → (In (row_text mark ts) 82 → ⊥) → HaveNoPrimeNode ts
-  none_prime mark no_tree lacks = tt
-  none_prime mark (one_more t ts) lacks = (
-    no_prime t (λ i. lacks (inr (in_left (tree_text t) (row_text 44 ts) 82 i))),
-    none_prime 44 ts (λ i. lacks (inr (in_right (tree_text t) (row_text 44 ts) 82 i))),
-  )
-
-no_or : (a b : Bool) → (a || b) ≡ false → (a ≡ false) × (b ≡ false)
-no_or true b e = absurd (clash refl e)
-no_or false b e = (refl, e)
-
-lacks_byte : (text : List ℕ) → list_any (λ y. eqb y 82) text ≡ false → In text 82 → ⊥
-lacks_byte [] none i = i
-lacks_byte (x ∷ text) none (inl is) = clash (eq-eqb x 82 (sym is)) (no_or (eqb x 82) (list_any (λ y. eqb y 82) text) none).0
-lacks_byte (x ∷ text) none (inr i) = lacks_byte text (no_or (eqb x 82) (list_any (λ y. eqb y 82) text) none).1 i
-
-pub cograph_by_text : (g : PlainGraph) → IsGraph g → (t : PlainTree) (word text : List ℕ) → IsTreeOf (adjacent g) g.vertices t → text ≡ word ++ tree_text t →
-    list_any (λ y. eqb y 82) text ≡ false → IsCograph g
-cograph_by_text g is t word text fits spelled none =
-    (cograph_by_tree g is (Some t) fits).0
-    (no_prime t (λ i. lacks_byte (word ++ tree_text t) (subst (λ l. list_any (λ y. eqb y 82) l ≡ false) spelled none) (in_right word (tree_text t) 82 i)))
-
--- the tree of a graph, where it is told that the graph may be a state
-pub tree_state : (r : Result Bool Memory) (mode : SessionMode) (g : PlainGraph) (word text : List ℕ) → IfOk r (λ fit. IsTrue fit → IsAllowed mode g) →
-    IfOk r (λ fit. IsTrue fit → (t : PlainTree) × IsTreeOf (adjacent g) g.vertices t × (text ≡ word ++ tree_text t)) → IfOk r (λ fit. IsTrue fit → IsStateText mode g word text)
-tree_state (Ok fit) mode g word text may told = λ so. let t = told so in record { allowed = may so; tree = t.0; fits = t.1; spelled = t.2 }
-tree_state (Err e) mode g word text may told = tt
 
 -- ---- a tree that is read
 

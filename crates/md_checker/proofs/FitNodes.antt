@@ -115,7 +115,7 @@ module _ {K P C : Type 0} {reverse : C → C} {e : ℕ → ℕ → C} (col : IsC
   list_some : 0 < length list
   list_some = let a = size in let b : 1 ≤ count cs = some in omega arith
 
-  pub fit_node : IsFitBy puts IsPrimeKind e s (names_below cs) k ps list → IsFitNodeBy puts IsPrimeKind e s k cs ps
+  pub fit_node : IsFitBy puts IsPrimeKind e (difference s (names_below cs)) k ps list → IsFitNodeBy puts IsPrimeKind e s k cs ps
   fit_node fit = record {
     is_module = alike_module col s cs some list size (λ i l. subst (Has (names_at cs i)) (sym (head_item ts i)) (own i l)) mods fit.alike;
     joined = λ i j less below.
@@ -124,7 +124,7 @@ module _ {K P C : Type 0} {reverse : C → C} {e : ℕ → ℕ → C} (col : IsC
     trivial = λ prime. subst (HasTrivialModulesAlone e) (sym (heads_set ts)) (fit.trivial prime);
   }
 
-  pub node_fit : IsFitNodeBy puts IsPrimeKind e s k cs ps → IsFitBy puts IsPrimeKind e s (names_below cs) k ps list
+  pub node_fit : IsFitNodeBy puts IsPrimeKind e s k cs ps → IsFitBy puts IsPrimeKind e (difference s (names_below cs)) k ps list
   node_fit fit = record {
     alike = λ i y below h.
         let c = child_at 0 list_some in

@@ -2,7 +2,7 @@
 use Rattle.std.proofs.Common.{◌≡◌, ◌↔◌, ℕ, ◌+◌, ◌-◌, ◌<◌, ◌≤◌, Bool, true, List, [], ◌∷◌, ◌++◌, length, get_or, take, drop, map, refl, sym, ◌∙◌, ap, ap₂, subst, inl, inr, length-drop, arith}
 use Rattle.std.proofs.lemmas.List.{map-append, take-map, drop-map, take-append-drop, take_more, get_or-drop, same_from_push, length-map}
 use Rattle.std.specs.Prelude.{IsTrue}
-use Rattle.std.specs.FinSet.{empty}
+use Rattle.std.specs.FinSet.{empty, difference}
 use Rattle.md_graph.specs.PlainGraph.{PlainGraph, IsGraph, adjacent}
 use Rattle.md_graph.specs.Sets.{NameSet, Has, Lacks, Within, only_name}
 use Rattle.md_graph.proofs.SetLemmas.{clash, empty_lacks, only_has, of_only, union_left, union_right, of_union, Has-along}
@@ -160,14 +160,14 @@ module _ {K P C : Type 0} {reverse : C → C} {e : ℕ → ℕ → C} (col : IsC
       same_names =
           is_union ∙ ap union_all (is_of ∙ ap₂ drop same_place may.finished.sets_are ∙ drop-map names (length ts - n) ts) ∙ sym (names_union after)
 
-      pub part_misfit : (IsFitBy puts IsPrimeKind e s m k ps sub → ⊥) → AreFitBy Fitting s (with_part (inner k n ps) ts) → ⊥
+      pub part_misfit : (IsFitBy puts IsPrimeKind e (difference s m) k ps sub → ⊥) → AreFitBy Fitting s (with_part (inner k n ps) ts) → ⊥
       part_misfit misfit fit =
           misfit (along (node_fit col puts IsPrimeKind s k after ps some_children own_heads child_parts (each_parts Fitting before (over ∷ []) fit.fit).1.0.0))
         where
-          along : IsFitBy puts IsPrimeKind e s (names_below (row after)) k ps (map head after) → IsFitBy puts IsPrimeKind e s m k ps sub
-          along f = subst (λ l. IsFitBy puts IsPrimeKind e s m k ps l) (sym heads_after) (subst (λ w. IsFitBy puts IsPrimeKind e s w k ps (map head after)) (sym same_names) f)
+          along : IsFitBy puts IsPrimeKind e (difference s (names_below (row after))) k ps (map head after) → IsFitBy puts IsPrimeKind e (difference s m) k ps sub
+          along f = subst (λ l. IsFitBy puts IsPrimeKind e (difference s m) k ps l) (sym heads_after) (subst (λ w. IsFitBy puts IsPrimeKind e (difference s w) k ps (map head after)) (sym same_names) f)
 
-      pub part_finished : (more : List NameSet) (longer : List ℕ) → IsFitBy puts IsPrimeKind e s m k ps sub → more ≡ take below sets ++ m ∷ [] → longer ≡ take (below + 1) list →
+      pub part_finished : (more : List NameSet) (longer : List ℕ) → IsFitBy puts IsPrimeKind e (difference s m) k ps sub → more ≡ take below sets ++ m ∷ [] → longer ≡ take (below + 1) list →
           AreFinishedBy Fitting s more longer (with_part (inner k n ps) ts)
       part_finished more longer fit push cut = record {
         sets_are = push ∙ ap₂ (λ a b. a ++ b ∷ []) (ap₂ take same_place may.finished.sets_are ∙ take-map names (length ts - n) ts) same_names ∙ sym (map-append names before (over ∷ []));
@@ -181,8 +181,8 @@ module _ {K P C : Type 0} {reverse : C → C} {e : ℕ → ℕ → C} (col : IsC
               (λ x h. within_whole x (below_right before after x (of_alone over x h)));
         };
       } where
-        along : IsFitBy puts IsPrimeKind e s (names_below (row after)) k ps (map head after)
-        along = subst (λ l. IsFitBy puts IsPrimeKind e s (names_below (row after)) k ps l) heads_after (subst (λ w. IsFitBy puts IsPrimeKind e s w k ps sub) same_names fit)
+        along : IsFitBy puts IsPrimeKind e (difference s (names_below (row after))) k ps (map head after)
+        along = subst (λ l. IsFitBy puts IsPrimeKind e (difference s (names_below (row after))) k ps l) heads_after (subst (λ w. IsFitBy puts IsPrimeKind e (difference s w) k ps sub) same_names fit)
 
         in_list : below < length list
         in_list =

@@ -1,8 +1,8 @@
 -- The pairs of names that stand for the children of a prime node: their text, piece by piece, and which they are.
-use Rattle.std.proofs.Common.{◌≡◌, ◌≢◌, ℕ, zero, suc, ◌+◌, ◌-◌, ◌*◌, ◌<◌, ◌≤◌, Bool, true, false, cond, true≢false, List, [], ◌∷◌, ◌++◌, length, get_or, drop, Option, Some, None, IfSome, append_assoc, append-nil, refl, sym, ◌∙◌, ap, ap₂, subst, inl, inr, arith}
+use Rattle.std.proofs.Common.{◌≡◌, ◌≢◌, ℕ, zero, suc, ◌+◌, ◌-◌, ◌<◌, ◌≤◌, Bool, true, false, cond, List, [], ◌∷◌, ◌++◌, length, get_or, drop, Option, Some, None, IfSome, append_assoc, append-nil, refl, sym, ◌∙◌, ap, ap₂, subst, inl, inr, arith}
 use Rattle.std.specs.Prelude.{◌↔◌, ⊤}
 use Rattle.std.specs.List.{All}
-use Rattle.std.proofs.lemmas.Bool.{cases_Bool, cases_lt}
+use Rattle.std.proofs.lemmas.Bool.{cases_Bool}
 use Rattle.std.proofs.lemmas.List.{drop_more, drop_all}
 use Rattle.std.specs.FinSet.{contains, insert, intersection, from_list}
 use Rattle.md_graph.specs.declared.TheConstants.{NAMES}
@@ -13,14 +13,16 @@ use Rattle.md_graph.proofs.SetLemmas.{clash, insert_old, insert_new, of_insert, 
 use Rattle.md_text.specs.declared.piece.Piece.{Piece}
 use Rattle.md_text.specs.Numbers.{decimal}
 use Rattle.md_text.specs.Pieces.{text_at, texts_at}
-use Rattle.md_text.proofs.Lists.{In, Later, to_pairs, of_contains, of_append, in_left, in_right, later_append}
+use Rattle.md_text.proofs.Lists.{In, to_pairs, of_contains}
 use Rattle.md_dimacs.proofs.BlockLemmas.{texts_append}
 use Rattle.md_tree.specs.Held.{Ascends, MayListIf}
 use Rattle.md_tree.specs.Spellings.{PairRules, ArePairRules, IsPairBeforeBy}
 use Rattle.md_tree.specs.TreeTexts.{pairs_text_by}
 use Rattle.md_tree.proofs.Texts.{pair_spelled}
+use Rattle.md_outline.specs.HeadPairs.{near_pairs, pairs_from, head_pairs, near_heads, SpellPositions}
+use Rattle.md_outline.proofs.HeadPairs.{ascend_two, pairs_within, pairs_later, in_listed}
 use Rattle.md_checker.specs.Gathered.{Matches}
-use Rattle.md_checker.specs.HeadPairs.{near_pairs, pairs_from, head_pairs, near_heads, SpellPositions, mark_behind, MatchesPairs}
+use Rattle.md_checker.specs.HeadPairs.{mark_behind, MatchesPairs}
 
 -- ---- the text of the pairs of one name
 
@@ -160,21 +162,6 @@ near_listed e v s low n (w ∷ ws) base up r of to =
 
 -- ---- name after name
 
-ascend_far : (ms : List ℕ) → Ascends ms → (i d : ℕ) → i + suc d < length ms → get_or ms i 0 < get_or ms (i + suc d) 0
-ascend_far ms up i zero below =
-    let n : i + 1 ≡ suc i = omega arith in
-    subst (λ j. get_or ms i 0 < get_or ms j 0) (sym n) (up i (omega arith))
-ascend_far ms up i (suc d) below =
-    let n : i + suc (suc d) ≡ suc (i + suc d) = omega arith in
-    let a : get_or ms i 0 < get_or ms (i + suc d) 0 = ascend_far ms up i d (omega arith) in
-    let b : get_or ms (i + suc d) 0 < get_or ms (suc (i + suc d)) 0 = up (i + suc d) (omega arith) in
-    subst (λ j. get_or ms i 0 < get_or ms j 0) (sym n) (omega arith)
-
-pub ascend_two : (ms : List ℕ) → Ascends ms → (i j : ℕ) → i < j → j < length ms → get_or ms i 0 < get_or ms j 0
-ascend_two ms up i j less below =
-    let sum : i + suc (j - suc i) ≡ j = omega arith in
-    subst (λ n. get_or ms i 0 < get_or ms n 0) sum (ascend_far ms up i (j - suc i) (omega arith))
-
 rises_of : (vs : List ℕ) (n : ℕ) → ((i j : ℕ) → i < j → j < length vs → get_or vs i 0 < get_or vs j 0) → ((i : ℕ) → i < length vs → get_or vs i 0 < n) → (low : ℕ) → (0 < length vs → low ≤ get_or vs 0 0) → Rises low n vs
 rises_of [] n up below low from = tt
 rises_of (v ∷ vs) n up below low from = (
@@ -263,170 +250,20 @@ rest_there pieces now names x left same cut there k d below =
     let all : All (λ v. v < length pieces) (x ∷ left) = subst (All (λ v. v < length pieces)) cut there in
     subst (λ p. get_or left k d < length p) (sym same) (all (suc k) d (let b : k < length left = below in let c : suc k < suc (length left) = omega arith in c))
 
--- ---- the places of heads
-
-places_from : (pieces : List Piece) (j : ℕ) (vs : List ℕ) → ((k : ℕ) → k < length vs → (get_or vs k 0 < length pieces) × (text_at pieces (get_or vs k 0) ≡ decimal (j + k))) → SpellPositions pieces j vs
-places_from pieces j [] each = tt
-places_from pieces j (v ∷ vs) each =
-    let here = each 0 (let b : 0 < suc (length vs) = omega arith in b) in
-    let none : j + 0 ≡ j = omega arith in (
-      here.0,
-      here.1 ∙ ap decimal none,
-      places_from pieces (suc j) vs
-          (λ k below.
-          let r = each (suc k) (let b : k < length vs = below in let c : suc k < suc (length vs) = omega arith in c) in
-          let sum : j + suc k ≡ suc j + k = omega arith in
-          (r.0, r.1 ∙ ap decimal sum)),
-    )
-
--- ascending names are at most the last of them
-pub all_below_last : (vs : List ℕ) (n : ℕ) → ((i j : ℕ) → i < j → j < length vs → get_or vs i 0 < get_or vs j 0) → get_or vs (length vs - 1) 0 < n → (i : ℕ) → i < length vs → get_or vs i 0 < n
-all_below_last vs n up last i below = elim (cases_lt i (length vs - 1)) [
-  | inl less ↦ (let a = up i (length vs - 1) less (omega arith) in omega arith)
-  | inr over ↦ (let same : i ≡ length vs - 1 = omega arith in subst (λ k. get_or vs k 0 < n) (sym same) last)
-]
-
-pub places_all : (pieces : List Piece) (vs : List ℕ) (n : ℕ) → length vs ≤ n → ((i : ℕ) → i < length vs → get_or vs i 0 < length pieces) →
-    ((k : ℕ) → k < n → text_at pieces (get_or vs k 0) ≡ decimal k) → SpellPositions pieces 0 vs
-places_all pieces vs n size below spelled =
-    places_from pieces 0 vs (λ k b. let sum : 0 + k ≡ k = omega arith in (below k b, spelled k (omega arith) ∙ ap decimal (sym sum)))
-
 -- ---- which pairs are listed
 
 module _ {P : Type 0} {r : PairRules P} (law : ArePairRules r) where
-  near_low : (e : ℕ → ℕ → Bool) (v low j : ℕ) (ws : List ℕ) (p : P) → In (near_pairs r e v low j ws) p → (r.first p ≡ low) × (j ≤ r.second p) × (r.second p < j + length ws)
-  near_low e v low j [] p i = absurd i
-  near_low e v low j (w ∷ ws) p i = here (λ k. near_low e v low (suc j) ws p k) (e v w) i
-    where
-      here : (In (near_pairs r e v low (suc j) ws) p → (r.first p ≡ low) × (suc j ≤ r.second p) × (r.second p < suc j + length ws)) → (b : Bool) →
-          In (cond b (r.pair low j ∷ near_pairs r e v low (suc j) ws) (near_pairs r e v low (suc j) ws)) p → (r.first p ≡ low) × (j ≤ r.second p) × (r.second p < j + suc (length ws))
-      here more true (inl same) = let h : r.second p ≡ j = ap r.second same ∙ law.second_of low j in (ap r.first same ∙ law.first_of low j, omega arith, omega arith)
-      here more true (inr k) = let t = more k in let a : suc j ≤ r.second p = t.1 in let b : r.second p < suc j + length ws = t.2 in (t.0, omega arith, omega arith)
-      here more false k = let t = more k in let a : suc j ≤ r.second p = t.1 in let b : r.second p < suc j + length ws = t.2 in (t.0, omega arith, omega arith)
-
-  pairs_within : (e : ℕ → ℕ → Bool) (list : List ℕ) (i : ℕ) (vs : List ℕ) (p : P) → In (pairs_from r e list i vs) p → (i ≤ r.first p) × (r.first p < i + length vs) × (r.second p < length list)
-  pairs_within e list i [] p k = absurd k
-  pairs_within e list i (v ∷ vs) p k = elim (of_append (near_pairs r e v i 0 list) (pairs_from r e list (suc i) vs) p k) [
-    | inl n ↦
-        let t : (r.first p ≡ i) × (0 ≤ r.second p) × (r.second p < 0 + length list) = near_low e v i 0 list p n in
-        let a : r.first p ≡ i = t.0 in let c : r.second p < 0 + length list = t.2 in
-        let d : r.first p < i + suc (length vs) = omega arith in (omega arith, d, omega arith)
-    | inr m ↦
-        let t : (suc i ≤ r.first p) × (r.first p < suc i + length vs) × (r.second p < length list) = pairs_within e list (suc i) vs p m in
-        let a : suc i ≤ r.first p = t.0 in let b : r.first p < suc i + length vs = t.1 in
-        let d : r.first p < i + suc (length vs) = omega arith in (omega arith, d, t.2)
-  ]
-
-  near_later : (e : ℕ → ℕ → Bool) (v low j : ℕ) (ws : List ℕ) → Later (IsPairBeforeBy r) (near_pairs r e v low j ws)
-  near_later e v low j [] = tt
-  near_later e v low j (w ∷ ws) = here (near_later e v low (suc j) ws) (e v w)
-    where
-      here : Later (IsPairBeforeBy r) (near_pairs r e v low (suc j) ws) → (b : Bool) → Later (IsPairBeforeBy r) (cond b (r.pair low j ∷ near_pairs r e v low (suc j) ws) (near_pairs r e v low (suc j) ws))
-      here more true = (
-        (λ q k.
-            let t = near_low e v low (suc j) ws q k in
-            let a : suc j ≤ r.second q = t.1 in let b : r.second (r.pair low j) ≡ j = law.second_of low j in
-            inr (law.first_of low j ∙ sym t.0, omega arith)),
-        more,
-      )
-      here more false = more
-
-  pairs_later : (e : ℕ → ℕ → Bool) (list : List ℕ) (i : ℕ) (vs : List ℕ) → Later (IsPairBeforeBy r) (pairs_from r e list i vs)
-  pairs_later e list i [] = tt
-  pairs_later e list i (v ∷ vs) = later_append (IsPairBeforeBy r) (near_pairs r e v i 0 list) (pairs_from r e list (suc i) vs) (near_later e v i 0 list) (pairs_later e list (suc i) vs)
-      (λ p q k m. inl (let a : r.first p ≡ i = (near_low e v i 0 list p k).0 in let b : suc i ≤ r.first q = (pairs_within e list (suc i) vs q m).0 in omega arith))
-
-  near_in : (e : ℕ → ℕ → Bool) (v low j : ℕ) (ws : List ℕ) (k : ℕ) → k < length ws → e v (get_or ws k 0) ≡ true → In (near_pairs r e v low j ws) (r.pair low (j + k))
-  near_in e v low j [] k below t = let b : k < 0 = below in absurd (omega arith)
-  near_in e v low j (w ∷ ws) zero below t =
-      let none : j + 0 ≡ j = omega arith in
-      ap_cond (e v w) t (inl (ap (λ n. r.pair low n) none))
-    where
-      ap_cond : (b : Bool) → b ≡ true → In (r.pair low j ∷ near_pairs r e v low (suc j) ws) (r.pair low (j + 0)) → In (cond b (r.pair low j ∷ near_pairs r e v low (suc j) ws) (near_pairs r e v low (suc j) ws)) (r.pair low (j + 0))
-      ap_cond true is h = h
-      ap_cond false is h = absurd (true≢false (sym is))
-  near_in e v low j (w ∷ ws) (suc k) below t =
-      let b : suc k < suc (length ws) = below in
-      let sum : j + suc k ≡ suc j + k = omega arith in
-      here (e v w) (subst (λ n. In (near_pairs r e v low (suc j) ws) (r.pair low n)) (sym sum) (near_in e v low (suc j) ws k (omega arith) t))
-    where
-      here : (b : Bool) → In (near_pairs r e v low (suc j) ws) (r.pair low (j + suc k)) → In (cond b (r.pair low j ∷ near_pairs r e v low (suc j) ws) (near_pairs r e v low (suc j) ws)) (r.pair low (j + suc k))
-      here true h = inr h
-      here false h = h
-
-  same_second : (low j k : ℕ) → r.pair low j ≡ r.pair low k → j ≡ k
-  same_second low j k same = sym (law.second_of low j) ∙ ap r.second same ∙ law.second_of low k
-
-  in_near : (e : ℕ → ℕ → Bool) (v low j : ℕ) (ws : List ℕ) (k : ℕ) → In (near_pairs r e v low j ws) (r.pair low (j + k)) → e v (get_or ws k 0) ≡ true
-  in_near e v low j [] k i = absurd i
-  in_near e v low j (w ∷ ws) k i = here (λ m. in_near e v low (suc j) ws m) (e v w) refl k i
-    where
-      here : ((m : ℕ) → In (near_pairs r e v low (suc j) ws) (r.pair low (suc j + m)) → e v (get_or ws m 0) ≡ true) → (b : Bool) → e v w ≡ b → (k : ℕ) →
-          In (cond b (r.pair low j ∷ near_pairs r e v low (suc j) ws) (near_pairs r e v low (suc j) ws)) (r.pair low (j + k)) → e v (get_or (w ∷ ws) k 0) ≡ true
-      here more true is zero h = is
-      here more true is (suc k) (inl same) = let f : j + suc k ≡ j = same_second low (j + suc k) j same in absurd (omega arith)
-      here more true is (suc k) (inr h) =
-          let sum : j + suc k ≡ suc j + k = omega arith in
-          more k (subst (λ n. In (near_pairs r e v low (suc j) ws) (r.pair low n)) sum h)
-      here more false is zero h =
-          let t = near_low e v low (suc j) ws (r.pair low (j + 0)) h in
-          let s : r.second (r.pair low (j + 0)) ≡ j + 0 = law.second_of low (j + 0) in
-          let f : suc j ≤ r.second (r.pair low (j + 0)) = t.1 in absurd (omega arith)
-      here more false is (suc k) h =
-          let sum : j + suc k ≡ suc j + k = omega arith in
-          more k (subst (λ n. In (near_pairs r e v low (suc j) ws) (r.pair low n)) sum h)
-
-  heads_in : (e : ℕ → ℕ → Bool) (list : List ℕ) (o : ℕ) (vs : List ℕ) (i k : ℕ) → i < length vs → k < length list → e (get_or vs i 0) (get_or list k 0) ≡ true → In (pairs_from r e list o vs) (r.pair (o + i) k)
-  heads_in e list o [] i k below in_list t = let b : i < 0 = below in absurd (omega arith)
-  heads_in e list o (v ∷ vs) zero k below in_list t =
-      let first : o + 0 ≡ o = omega arith in
-      let second : 0 + k ≡ k = omega arith in
-      in_left (near_pairs r e v o 0 list) (pairs_from r e list (suc o) vs) (r.pair (o + 0) k)
-      (subst (λ n. In (near_pairs r e v o 0 list) (r.pair n k)) (sym first) (subst (λ n. In (near_pairs r e v o 0 list) (r.pair o n)) second (near_in e v o 0 list k in_list t)))
-  heads_in e list o (v ∷ vs) (suc i) k below in_list t =
-      let b : suc i < suc (length vs) = below in
-      let first : o + suc i ≡ suc o + i = omega arith in
-      in_right (near_pairs r e v o 0 list) (pairs_from r e list (suc o) vs) (r.pair (o + suc i) k)
-      (subst (λ n. In (pairs_from r e list (suc o) vs) (r.pair n k)) (sym first) (heads_in e list (suc o) vs i k (omega arith) in_list t))
-
-  in_heads : (e : ℕ → ℕ → Bool) (list : List ℕ) (o : ℕ) (vs : List ℕ) (i k : ℕ) → In (pairs_from r e list o vs) (r.pair (o + i) k) → e (get_or vs i 0) (get_or list k 0) ≡ true
-  in_heads e list o [] i k h = absurd h
-  in_heads e list o (v ∷ vs) zero k h =
-      let first : o + 0 ≡ o = omega arith in
-      let second : 0 + k ≡ k = omega arith in
-      elim (of_append (near_pairs r e v o 0 list) (pairs_from r e list (suc o) vs) (r.pair (o + 0) k) h) [
-        | inl n ↦ in_near e v o 0 list k (subst (λ m. In (near_pairs r e v o 0 list) (r.pair o m)) (sym second) (subst (λ m. In (near_pairs r e v o 0 list) (r.pair m k)) first n))
-        | inr m ↦
-            (let a : suc o ≤ r.first (r.pair (o + 0) k) = (pairs_within e list (suc o) vs (r.pair (o + 0) k) m).0 in
-            let b : r.first (r.pair (o + 0) k) ≡ o + 0 = law.first_of (o + 0) k in absurd (omega arith))
-      ]
-  in_heads e list o (v ∷ vs) (suc i) k h =
-      let first : o + suc i ≡ suc o + i = omega arith in
-      elim (of_append (near_pairs r e v o 0 list) (pairs_from r e list (suc o) vs) (r.pair (o + suc i) k) h) [
-        | inl n ↦
-            (let a : r.first (r.pair (o + suc i) k) ≡ o = (near_low e v o 0 list (r.pair (o + suc i) k) n).0 in
-            let b : r.first (r.pair (o + suc i) k) ≡ o + suc i = law.first_of (o + suc i) k in absurd (omega arith))
-        | inr m ↦ in_heads e list (suc o) vs i k (subst (λ n. In (pairs_from r e list (suc o) vs) (r.pair n k)) first m)
-      ]
-
-  -- a pair of positions is listed exactly where the names there have a pair
-  pub listed_in : (e : ℕ → ℕ → Bool) (list : List ℕ) (i k : ℕ) → i < length list → k < length list → e (get_or list i 0) (get_or list k 0) ≡ true → In (head_pairs r e list) (r.pair i k)
-  listed_in e list i k below in_list t = let none : 0 + i ≡ i = omega arith in subst (λ n. In (head_pairs r e list) (r.pair n k)) none (heads_in e list 0 list i k below in_list t)
-
-  pub in_listed : (e : ℕ → ℕ → Bool) (list : List ℕ) (i k : ℕ) → In (head_pairs r e list) (r.pair i k) → e (get_or list i 0) (get_or list k 0) ≡ true
-  in_listed e list i k h = let none : 0 + i ≡ i = omega arith in in_heads e list 0 list i k (subst (λ n. In (head_pairs r e list) (r.pair n k)) (sym none) h)
-
   -- a prime node may list the pairs
   pub heads_listed : (e : ℕ → ℕ → Bool) (list : List ℕ) → ((i k : ℕ) → i < length list → k < length list → e (get_or list i 0) (get_or list k 0) ≡ true → r.IsOf (length list) (r.pair i k)) →
       head_pairs r e list ≢ [] → MayListIf r true (length list) (head_pairs r e list)
   heads_listed e list of some = (
     some,
-    to_pairs (IsPairBeforeBy r) (head_pairs r e list) (pairs_later e list 0 list),
+    to_pairs (IsPairBeforeBy r) (head_pairs r e list) (pairs_later law e list 0 list),
     (λ p c.
         let i : In (head_pairs r e list) p = of_contains (head_pairs r e list) p c in
-        let t : (0 ≤ r.first p) × (r.first p < 0 + length list) × (r.second p < length list) = pairs_within e list 0 list p i in
+        let t : (0 ≤ r.first p) × (r.first p < 0 + length list) × (r.second p < length list) = pairs_within law e list 0 list p i in
         let a : r.first p < 0 + length list = t.1 in
         let b : r.first p < length list = omega arith in
         subst (r.IsOf (length list)) (law.pair_of p)
-        (of (r.first p) (r.second p) b t.2 (in_listed e list (r.first p) (r.second p) (subst (In (head_pairs r e list)) (sym (law.pair_of p)) i)))),
+        (of (r.first p) (r.second p) b t.2 (in_listed law e list (r.first p) (r.second p) (subst (In (head_pairs r e list)) (sym (law.pair_of p)) i)))),
   )

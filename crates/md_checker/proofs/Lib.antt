@@ -18,12 +18,14 @@ pub mod FitNodes
 pub mod FitStacks
 mod NamedNodes
 mod TextWalk
+mod Twins
 mod Comparing
 mod ArcTexts
 pub mod HeadPairs
 mod GraphTexts
 mod Taking
 mod Cotrees
+mod StateTexts
 mod Splitting
 mod PathLines
 mod LineTrees

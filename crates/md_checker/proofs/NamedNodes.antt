@@ -1,6 +1,6 @@
 -- A node fits where names of its children do, whichever names of them these are.
 use Rattle.std.proofs.Common.{◌≡◌, ℕ, zero, suc, ◌<◌, ◌≤◌, List, [], ◌∷◌, length, get_or, refl, sym, ◌∙◌, ap, ap₂, subst, inl, inr, arith}
-use Rattle.std.specs.FinSet.{empty, union, insert, from_list}
+use Rattle.std.specs.FinSet.{empty, union, insert, from_list, difference}
 use Rattle.md_graph.specs.Sets.{NameSet, Has, Disjoint, Within, only_name}
 use Rattle.md_graph.proofs.SetLemmas.{clash, empty_lacks, of_only, of_union, union_left, union_right, same_members}
 use Rattle.md_modules.specs.Colours.{IsColouring, AreTold}
@@ -130,7 +130,7 @@ module _ {K P C : Type 0} {reverse : C → C} {e : ℕ → ℕ → C} (col : IsC
             subst (λ w. IsMaximalStrong e w m) below ((un.1 m).1 (i.0, (let c : i.0 < count ds = omega arith in c), i.2 ∙ sym (led_at k ts ms least i.0)))),
       ))
 
-  pub named_fit : IsFitBy puts (λ l. l ≡ prime) e s (names_below cs) k ps ms → IsFitNodeBy puts (λ l. l ≡ prime) e s k cs ps
+  pub named_fit : IsFitBy puts (λ l. l ≡ prime) e (difference s (names_below cs)) k ps ms → IsFitNodeBy puts (λ l. l ≡ prime) e s k cs ps
   named_fit fit = record {
     is_module = alike_module col s cs some ms same_size lie mods fit.alike;
     joined = λ i j less b.

@@ -1,17 +1,20 @@
 -- The steps of a comparison of a tree's text with a graph.
-use Rattle.std.proofs.Common.{◌≡◌, ℕ, zero, suc, ◌+◌, ◌-◌, ◌<◌, ◌≤◌, Bool, true, false, List, [], ◌∷◌, ◌++◌, Contains, length, get_or, take, drop, map, Option, Some, None, sym, ◌∙◌, ap, subst, inl, inr, refl, length-drop, arith}
-use Rattle.std.proofs.lemmas.List.{length-map, map-append, take-map, drop-map, get_or-drop, take-append-drop, length-take-le}
+use Rattle.std.proofs.Common.{◌≡◌, ◌≢◌, ℕ, zero, suc, ◌+◌, ◌-◌, ◌<◌, ◌≤◌, Bool, true, false, List, [], ◌∷◌, ◌++◌, Contains, length, get_or, take, drop, map, Option, Some, None, sym, ◌∙◌, ap, subst, inl, inr, refl, length-drop, length-append, arith}
+use Rattle.std.proofs.lemmas.Bool.{cases_Bool, cases_lt}
+use Rattle.std.proofs.lemmas.List.{length-map, map-append, take-map, drop-map, get_or-drop, get_or-take, take-append-drop, length-take-le}
+use Rattle.std.proofs.Math.ListN.{get_or-append}
+use Rattle.std.proofs.Math.Seq.{get_or-append_seam}
 use Rattle.std.specs.Prelude.{◌↔◌}
-use Rattle.std.specs.FinSet.{insert, empty}
+use Rattle.std.specs.FinSet.{contains, insert, empty, difference}
 use Rattle.md_graph.specs.declared.TheConstants.{NAMES}
-use Rattle.md_graph.specs.Sets.{NameSet, Has, Lacks, Within, only_name, union_all}
-use Rattle.md_graph.proofs.SetLemmas.{clash, empty_lacks, of_insert, same_members}
+use Rattle.md_graph.specs.Sets.{NameSet, Has, Lacks, Within}
+use Rattle.md_graph.proofs.SetLemmas.{clash, empty_lacks, of_insert, insert_new, insert_old, of_minus, lacks_within, Has-along, same_members}
 use Rattle.md_modules.specs.Modules.{IsModule}
 use Rattle.md_text.proofs.Lists.{In, to_contains}
 use Rattle.md_text.specs.Fronts.{IsNumberSplit}
 use Rattle.md_tree.specs.declared.builder.Opened.{Opened}
 use Rattle.md_tree.specs.Heads.{head_at}
-use Rattle.md_tree.specs.Held.{AreKept, IsDue, IsLeast, AreLeast, AscendsIf, Ascends, IsMinimum, MayHave, HasOthersIf, MayListIf}
+use Rattle.md_tree.specs.Held.{AreKept, IsDue, IsLeast, AreLeast, AscendsIf, IsMinimum, MayHave, HasOthersIf, MayListIf}
 use Rattle.md_tree.specs.Spellings.{KindRules, PairRules, spelling, IsSpelling}
 use Rattle.md_tree.specs.TreeGraph.{position_of}
 use Rattle.md_tree.specs.TreeTexts.{pairs_text_by}
@@ -20,13 +23,12 @@ use Rattle.md_tree.specs.WellFormed.{IsCanonicalNodeBy, IsOfKind, NoneOfKind}
 use Rattle.md_tree.proofs.Fitted.{child_modules}
 use Rattle.md_tree.proofs.Folding.{count_row, each_join, each_parts}
 use Rattle.md_tree.proofs.Heads.{heads_in}
-use Rattle.md_tree.proofs.Holding.{first_least, kept_none, kept_name, kept_closed, least_drop, least_length, names_right, names_to_one, names_of_one, shape_has}
+use Rattle.md_tree.proofs.Holding.{lacks_if, kept_none, kept_name, kept_closed, least_drop, least_length, names_right, names_to_one, names_of_one, shape_has}
 use Rattle.md_tree.proofs.Coming.{due_start, due_name, due_node, behind_comma, behind_inside, behind_end, inside_end, inside_first, few_held}
-use Rattle.md_tree.proofs.Nodes.{IsChild, at_apart, at_inside, at_position, position_below}
-use Rattle.md_checker.specs.FitTests.{IsFitBy}
-use Rattle.md_checker.specs.TextFits.{root_kind, LacksKindIf, MayHaveKinds, IsLeastNameIf, IsReadBy, IsReadInsideBy}
-use Rattle.md_checker.specs.TextViews.{View, IsView, StandForChildren, IsFitView, FitsView, IsTextOf}
-use Rattle.md_checker.proofs.FitNodes.{names_union}
+use Rattle.md_tree.proofs.Nodes.{IsChild, at_apart, at_inside, at_position, child_at, position_below}
+use Rattle.md_checker.specs.FitTests.{AreAlike}
+use Rattle.md_checker.specs.TextFits.{LacksKindIf, MayHaveKinds, AreLive, HasOthers, IsReadBy, IsReadInsideBy}
+use Rattle.md_checker.specs.TextViews.{View, root_kind, IsView, StandForChildren, IsFitView, FitsView, AdmitsNode, IsTextOf}
 use Rattle.md_checker.proofs.NamedNodes.{least_here, named_fit}
 
 -- ---- the kinds of children
@@ -50,49 +52,70 @@ module _ {K P : Type 0} where
   has_of_kinds : (r : KindRules K) (k : K) (ts : List (PlainTreeOf K P)) → MayHaveKinds r k (map root_kind ts) → MayHave r k (row ts)
   has_of_kinds r k ts h = (subst (λ n. r.least_count k ≤ n) (length-map ts root_kind ∙ sym (count_row ts)) h.0, others_if (r.lists k) k ts h.1)
 
+-- a tree at a position behind a place
+at_drop : {K P : Type 0} (ts : List (PlainTreeOf K P)) (n i j : ℕ) → j ≡ n + i → names_at (row (drop n ts)) i ≡ names_at (row ts) j
+at_drop ts zero i j is = let same : i ≡ j = omega arith in ap (names_at (row ts)) same
+at_drop [] (suc n) i j is = refl
+at_drop (t ∷ ts) (suc n) i zero is = absurd (omega arith)
+at_drop (t ∷ ts) (suc n) i (suc j) is = at_drop ts n i j (omega arith)
+
+-- one more name
+live_push : (list longer : List ℕ) (n : ℕ) (live : NameSet) → longer ≡ list ++ n ∷ [] → AreLive list live → Has live n → AreLive longer live
+live_push list longer n live put each here i below = elim (cases_lt i (length list)) [
+  | inl less ↦ subst (Has live) (sym (ap (λ l. get_or l i 0) put ∙ get_or-append list (n ∷ []) 0 i less)) (each i less)
+  | inr over ↦
+      let size : length longer ≡ length list + 1 = ap length put ∙ length-append list (n ∷ []) in
+      let same : i ≡ length list = omega arith in
+      subst (Has live) (sym (ap (λ l. get_or l i 0) put ∙ ap (λ k. get_or (list ++ n ∷ []) k 0) same ∙ get_or-append_seam list n [] 0)) here
+]
+
 module _ {K P : Type 0} {kinds : KindRules K} {pairs : PairRules P} (law : IsSpelling (spelling kinds pairs)) (v : View K P) where
   -- ---- the beginning
 
-  pub read_start : (bytes : List ℕ) (sets : List NameSet) (list : List ℕ) (roots : List (Option K)) (opens : List (Opened K)) (seen : NameSet) →
-      sets ≡ [] → list ≡ [] → roots ≡ [] → opens ≡ [] → seen ≡ empty → IsReadBy kinds pairs v bytes bytes false sets list roots opens seen
-  read_start bytes sets list roots opens seen no_sets no_list no_roots no_opens no_names = record {
+  pub read_start : (bytes : List ℕ) (list : List ℕ) (roots : List (Option K)) (opens : List (Opened K)) (seen live : NameSet) →
+      list ≡ [] → roots ≡ [] → opens ≡ [] → seen ≡ empty → live ≡ v.vertices → IsReadBy kinds pairs v bytes bytes false list roots opens seen live
+  read_start bytes list roots opens seen live no_list no_roots no_opens no_names all = record {
     trees = [];
     walked = record {
       kept = subst (λ l. AreKept (spelling kinds pairs) NAMES [] l seen) (sym no_list) (subst (AreKept (spelling kinds pairs) NAMES [] []) (sym no_names) (kept_none law));
-      sets_are = no_sets;
       roots_are = no_roots;
       fit = tt;
+      admitted = tt;
       within = λ x h. clash (subst (λ s. Has s x) no_names h) (empty_lacks x);
+      unseen = λ x h lacks. subst (λ s. Has s x) (sym all) h;
+      least = λ i below. let b : i < 0 = subst (λ l. i < length l) no_list below in absurd (omega arith);
     };
     comes = subst (λ o. IsDue (spelling kinds pairs) bytes bytes o []) (sym no_opens) (due_start law bytes);
   }
 
   -- ---- a name
 
-  pub read_name : (bytes text tail : List ℕ) (sets more : List NameSet) (list longer : List ℕ) (roots roots_more : List (Option K)) (opens : List (Opened K)) (seen new only : NameSet) (n : ℕ) →
-      IsReadBy kinds pairs v bytes text false sets list roots opens seen → IsNumberSplit text n tail → Has v.vertices n → n < NAMES → Lacks seen n → only ≡ only_name n → more ≡ sets ++ only ∷ [] → longer ≡ list ++ n ∷ [] →
-      roots_more ≡ roots ++ None ∷ [] → new ≡ insert seen n → IsReadBy kinds pairs v bytes tail true more longer roots_more opens new
-  read_name bytes text tail sets more list longer roots roots_more opens seen new only n r split vertex below lacks is push put kind made =
+  pub read_name : (bytes text tail : List ℕ) (list longer : List ℕ) (roots roots_more : List (Option K)) (opens : List (Opened K)) (seen new live : NameSet) (n : ℕ) →
+      IsReadBy kinds pairs v bytes text false list roots opens seen live → IsNumberSplit text n tail → Has v.vertices n → n < NAMES → Lacks seen n → longer ≡ list ++ n ∷ [] →
+      roots_more ≡ roots ++ None ∷ [] → new ≡ insert seen n → IsReadBy kinds pairs v bytes tail true longer roots_more opens new live
+  read_name bytes text tail list longer roots roots_more opens seen new live n r split vertex below lacks put kind made =
       let ts = r.trees in
       record {
         trees = ts ++ leaf n ∷ [];
         walked = record {
           kept = subst (λ l. AreKept (spelling kinds pairs) NAMES (ts ++ leaf n ∷ []) l new) (sym put)
               (subst (AreKept (spelling kinds pairs) NAMES (ts ++ leaf n ∷ []) (list ++ n ∷ [])) (sym made) (kept_name law ts list seen n r.walked.kept below lacks));
-          sets_are = push ∙ ap (λ s. sets ++ s ∷ []) is ∙ ap (λ l. l ++ only_name n ∷ []) r.walked.sets_are ∙ sym (map-append names ts (leaf n ∷ []));
           roots_are = kind ∙ ap (λ l. l ++ None ∷ []) r.walked.roots_are ∙ sym (map-append root_kind ts (leaf n ∷ []));
           fit = each_join (FitsView v) ts (leaf n ∷ []) r.walked.fit (tt, tt);
+          admitted = each_join (AdmitsNode v) ts (leaf n ∷ []) r.walked.admitted (tt, tt);
           within = λ x h. elim (of_insert seen n x (subst (λ s. Has s x) made h)) [ inl e ↦ subst (Has v.vertices) (sym e) vertex | inr i ↦ r.walked.within x i ];
+          unseen = λ x h out. r.walked.unseen x h (lacks_within seen new (λ y i. subst (λ s. Has s y) (sym made) (insert_old seen n y i)) x out);
+          least = live_push list longer n live put r.walked.least (r.walked.unseen n vertex lacks);
         };
         comes = due_name law bytes text opens ts n tail r.comes split;
       }
 
   -- ---- a letter and a bracket
 
-  pub read_letter : (bytes text tail : List ℕ) (sets : List NameSet) (list : List ℕ) (roots : List (Option K)) (opens more : List (Opened K)) (seen : NameSet) (k : K) (first : ℕ) →
-      IsReadBy kinds pairs v bytes text false sets list roots opens seen → text ≡ kinds.letter k ∷ 40 ∷ tail → first ≡ length list → more ≡ opens ++ record { kind = k; first = first } ∷ [] →
-      IsReadBy kinds pairs v bytes tail false sets list roots more seen
-  read_letter bytes text tail sets list roots opens more seen k first r is size push =
+  pub read_letter : (bytes text tail : List ℕ) (list : List ℕ) (roots : List (Option K)) (opens more : List (Opened K)) (seen live : NameSet) (k : K) (first : ℕ) →
+      IsReadBy kinds pairs v bytes text false list roots opens seen live → text ≡ kinds.letter k ∷ 40 ∷ tail → first ≡ length list → more ≡ opens ++ record { kind = k; first = first } ∷ [] →
+      IsReadBy kinds pairs v bytes tail false list roots more seen live
+  read_letter bytes text tail list roots opens more seen live k first r is size push =
       let same : first ≡ length r.trees = size ∙ sym (least_length r.trees list r.walked.kept.least) in
       record {
         trees = r.trees;
@@ -102,9 +125,9 @@ module _ {K P : Type 0} {kinds : KindRules K} {pairs : PairRules P} (law : IsSpe
 
   -- ---- a comma
 
-  pub read_comma : (bytes text tail : List ℕ) (sets : List NameSet) (list : List ℕ) (roots : List (Option K)) (opens : List (Opened K)) (seen : NameSet) →
-      IsReadBy kinds pairs v bytes text true sets list roots opens seen → 0 < length opens → text ≡ 44 ∷ tail → IsReadBy kinds pairs v bytes tail false sets list roots opens seen
-  read_comma bytes text tail sets list roots opens seen r some is = record {
+  pub read_comma : (bytes text tail : List ℕ) (list : List ℕ) (roots : List (Option K)) (opens : List (Opened K)) (seen live : NameSet) →
+      IsReadBy kinds pairs v bytes text true list roots opens seen live → 0 < length opens → text ≡ 44 ∷ tail → IsReadBy kinds pairs v bytes tail false list roots opens seen live
+  read_comma bytes text tail list roots opens seen live r some is = record {
     trees = r.trees;
     walked = r.walked;
     comes = behind_comma law bytes text opens r.trees tail r.comes some is;
@@ -112,9 +135,9 @@ module _ {K P : Type 0} {kinds : KindRules K} {pairs : PairRules P} (law : IsSpe
 
   -- ---- the end of a node
 
-  pub read_inside : (bytes text : List ℕ) (sets : List NameSet) (list : List ℕ) (roots : List (Option K)) (opens others : List (Opened K)) (seen : NameSet) (last : Opened K) →
-      IsReadBy kinds pairs v bytes text true sets list roots opens seen → opens ≡ others ++ last ∷ [] → IsReadInsideBy kinds pairs v bytes text last sets list roots others seen
-  read_inside bytes text sets list roots opens others seen last r is = record {
+  pub read_inside : (bytes text : List ℕ) (list : List ℕ) (roots : List (Option K)) (opens others : List (Opened K)) (seen live : NameSet) (last : Opened K) →
+      IsReadBy kinds pairs v bytes text true list roots opens seen live → opens ≡ others ++ last ∷ [] → IsReadInsideBy kinds pairs v bytes text last list roots others seen live
+  read_inside bytes text list roots opens others seen live last r is = record {
     trees = r.trees;
     walked = r.walked;
     comes = behind_inside law bytes text opens others last r.trees r.comes is;
@@ -122,40 +145,26 @@ module _ {K P : Type 0} {kinds : KindRules K} {pairs : PairRules P} (law : IsSpe
 
   -- ---- the end of the text
 
-  pub read_whole : (bytes rest : List ℕ) (sets : List NameSet) (list : List ℕ) (roots : List (Option K)) (opens : List (Opened K)) (seen : NameSet) →
-      IsReadBy kinds pairs v bytes rest true sets list roots opens seen → rest ≡ [] → opens ≡ [] → seen ≡ v.vertices → (t : PlainTreeOf K P) × IsTextOf kinds pairs v bytes t
-  read_whole bytes rest sets list roots opens seen r none closed all =
+  pub read_whole : (bytes rest : List ℕ) (list : List ℕ) (roots : List (Option K)) (opens : List (Opened K)) (seen live : NameSet) →
+      IsReadBy kinds pairs v bytes rest true list roots opens seen live → rest ≡ [] → opens ≡ [] → seen ≡ v.vertices → (t : PlainTreeOf K P) × IsTextOf kinds pairs v bytes t
+  read_whole bytes rest list roots opens seen live r none closed all =
       let b = behind_end law bytes rest opens r.trees list seen r.walked.kept r.comes closed none in
       let t = b.tree in
       let fit : EachNodeBelow (FitsView v) (row (t ∷ [])) = subst (λ us. EachNodeBelow (FitsView v) (row us)) b.only r.walked.fit in
+      let asked : EachNodeBelow (AdmitsNode v) (row (t ∷ [])) = subst (λ us. EachNodeBelow (AdmitsNode v) (row us)) b.only r.walked.admitted in
       let same : (x : ℕ) → Has seen x ↔ Has (names_below (row (t ∷ []))) x = subst (λ us. (x : ℕ) → Has seen x ↔ Has (names_below (row us)) x) b.only r.walked.kept.same in (
         t,
         record {
           canonical = b.good.1;
           names_are = same_members (names t) v.vertices (λ x h. subst (λ s. Has s x) all ((same x).1 (names_to_one t x h))) (λ x h. names_of_one t x ((same x).0 (subst (λ s. Has s x) (sym all) h)));
           fits = fit.0;
+          admitted = asked.0;
           spelled = b.text;
         },
       )
 
--- the least name of a node is that of one of its children
-least_minimum : {K P : Type 0} (sorts : Bool) (ts : List (PlainTreeOf K P)) (ms : List ℕ) (s : NameSet) (low : ℕ) → AreLeast ts ms → 0 < length ms → AscendsIf sorts ms → s ≡ names_below (row ts) → IsLeastNameIf sorts ms s low → IsMinimum ms low
-least_minimum true ts ms s low least some up is first = subst (IsMinimum ms) (sym first) (first_least ms some up)
-least_minimum false ts ms s low least some up is first =
-    let i : ℕ = position_of (row ts) low in
-    let h : Has (names_at (row ts) (position_of (row ts) low)) low = at_position (row ts) low (subst (λ w. Has w low) is first.member) in
-    let n : length ts ≡ length ms = least_length ts ms least in
-    let c : count (row ts) ≡ length ts = count_row ts in
-    let b : position_of (row ts) low < count (row ts) = position_below (row ts) (position_of (row ts) low) low h in
-    let below : position_of (row ts) low < length ms = omega arith in
-    let up_to : (k : ℕ) → k < length ms → low ≤ get_or ms k 0 = λ k l.
-    first.first (get_or ms k 0) (subst (λ w. Has w (get_or ms k 0)) (sym is) (at_inside (row ts) k (get_or ms k 0) (least_here ts ms least k l).member)) (omega arith) in
-    let down : get_or ms (position_of (row ts) low) 0 ≤ low = (least_here ts ms least (position_of (row ts) low) below).first low h in
-    let over : low ≤ get_or ms (position_of (row ts) low) 0 = up_to (position_of (row ts) low) below in
-    record { place = position_of (row ts) low; within = below; there = omega arith; first = up_to }
-
-module _ {K P : Type 0} {kinds : KindRules K} {pairs : PairRules P} (law : IsSpelling (spelling kinds pairs)) {v : View K P} {bytes text : List ℕ} {inner : Opened K} {sets : List NameSet} {list : List ℕ} {roots : List (Option K)}
-    {opens : List (Opened K)} {seen : NameSet} (r : IsReadInsideBy kinds pairs v bytes text inner sets list roots opens seen) where
+module _ {K P : Type 0} {kinds : KindRules K} {pairs : PairRules P} (law : IsSpelling (spelling kinds pairs)) {v : View K P} {bytes text : List ℕ} {inner : Opened K} {list : List ℕ} {roots : List (Option K)}
+    {opens : List (Opened K)} {seen live : NameSet} (r : IsReadInsideBy kinds pairs v bytes text inner list roots opens seen live) where
   abbrev ts : List (PlainTreeOf K P)
   ts = r.trees
 
@@ -180,40 +189,36 @@ module _ {K P : Type 0} {kinds : KindRules K} {pairs : PairRules P} (law : IsSpe
   below_seen : (x : ℕ) → Has (names_below (row ts)) x → Has v.vertices x
   below_seen x h = r.walked.within x ((r.walked.kept.same x).1 h)
 
-  pub inside_heads : (sorts : Bool) (sub : List ℕ) → sub ≡ drop first list → AscendsIf sorts sub → StandForChildren v.vertices sorts sub
-  inside_heads sorts sub is up =
-      let size : length sub ≡ length list - first = ap length is ∙ length-drop first list in
-      let f = first_within in
-      let at : (i : ℕ) → get_or sub i 0 ≡ get_or list (first + i) 0 = λ i. ap (λ l. get_or l i 0) is ∙ get_or-drop first list i 0 in
-      let own : (i : ℕ) → i < length sub → Has (names_at (row ts) (first + i)) (get_or list (first + i) 0) = λ i l. (least_here ts list r.walked.kept.least (first + i) (omega arith)).member in
-      record {
-        some = omega arith;
-        members = λ i l. subst (Has v.vertices) (sym (at i)) (below_seen (get_or list (first + i) 0) (at_inside (row ts) (first + i) (get_or list (first + i) 0) (own i l)));
-        differ = λ i j less l same.
-            let b : i < length sub = omega arith in
-            clash (own j l)
-            (at_apart (row ts) r.walked.kept.apart (first + i) (first + j) (omega arith) (names_at (row ts) (first + i)) (names_at (row ts) (first + j)) refl refl (get_or list (first + j) 0)
-            (subst (Has (names_at (row ts) (first + i))) (sym (at i) ∙ same ∙ at j) (own i b)));
-        order = up;
-      }
+  -- the kinds of the roots of the children
+  pub inside_roots : (sub : List (Option K)) → sub ≡ drop first roots → sub ≡ map root_kind children
+  inside_roots sub is = is ∙ ap (drop first) r.walked.roots_are ∙ drop-map root_kind first ts
 
-  module _ (is_view : IsView kinds pairs v) (ps : List P) (sub : List ℕ) (is_sub : sub ≡ drop first list) (up : AscendsIf (kinds.sorts inner.kind) sub) (sub_roots : List (Option K)) (are_roots : sub_roots ≡ drop first roots)
-      (has : MayHaveKinds kinds inner.kind sub_roots) (m : NameSet) (of : List NameSet) (is_union : m ≡ union_all of) (is_of : of ≡ drop first sets) (low : ℕ) (is_low : IsLeastNameIf (kinds.sorts inner.kind) sub m low)
-      (lists : MayListIf pairs (kinds.lists inner.kind) (length sub) ps) (fit : IsFitView v m inner.kind ps sub) where
-    abbrev made : PlainTreeOf K P
-    made = node inner.kind (row children) ps
+  -- the least names of the children
+  module _ (sub : List ℕ) (is_sub : sub ≡ drop first list) where
+    sub_length : length sub ≡ length list - first
+    sub_length = ap length is_sub ∙ length-drop first list
 
-    abbrev Canonical : K → PlainTreesOf K P → List P → Type 0
-    Canonical = IsCanonicalNodeBy (spelling kinds pairs)
+    at_sub : (i : ℕ) → get_or sub i 0 ≡ get_or list (first + i) 0
+    at_sub i = ap (λ l. get_or l i 0) is_sub ∙ get_or-drop first list i 0
 
-    may_have : MayHave kinds inner.kind (row children)
-    may_have = has_of_kinds kinds inner.kind children (subst (MayHaveKinds kinds inner.kind) (are_roots ∙ ap (drop first) r.walked.roots_are ∙ drop-map root_kind first ts) has)
+    pub inside_live : AreLive sub live
+    inside_live i below = let size = sub_length in subst (Has live) (sym (at_sub i)) (r.walked.least (first + i) (omega arith))
 
-    sub_size : length sub ≡ length ts - first
-    sub_size = ap length is_sub ∙ length-drop first list ∙ ap (λ n. n - first) (sym same_least)
-
-    same_names : m ≡ names_below (row children)
-    same_names = is_union ∙ ap union_all (is_of ∙ ap (drop first) r.walked.sets_are ∙ drop-map names first ts) ∙ sym (names_union children)
+    pub inside_heads : (sorts : Bool) → AscendsIf sorts sub → StandForChildren v.vertices sorts sub
+    inside_heads sorts up =
+        let size = sub_length in
+        let f = first_within in
+        let own : (i : ℕ) → i < length sub → Has (names_at (row ts) (first + i)) (get_or list (first + i) 0) = λ i l. (least_here ts list r.walked.kept.least (first + i) (omega arith)).member in
+        record {
+          some = omega arith;
+          members = λ i l. subst (Has v.vertices) (sym (at_sub i)) (below_seen (get_or list (first + i) 0) (at_inside (row ts) (first + i) (get_or list (first + i) 0) (own i l)));
+          differ = λ i j less l same.
+              let b : i < length sub = omega arith in
+              clash (own j l)
+              (at_apart (row ts) r.walked.kept.apart (first + i) (first + j) (omega arith) (names_at (row ts) (first + i)) (names_at (row ts) (first + j)) refl refl (get_or list (first + j) 0)
+              (subst (Has (names_at (row ts) (first + i))) (sym (at_sub i) ∙ same ∙ at_sub j) (own i b)));
+          order = up;
+        }
 
     children_least : AreLeast children sub
     children_least =
@@ -221,13 +226,103 @@ module _ {K P : Type 0} {kinds : KindRules K} {pairs : PairRules P} (law : IsSpe
         subst (AreLeast children) (ap (λ n. drop n list) size ∙ sym is_sub)
         (least_drop (take first ts) children list (subst (λ us. AreLeast us list) (sym (take-append-drop first ts)) r.walked.kept.least))
 
-    sub_some : 0 < length sub
-    sub_some = let a = inside in let b = sub_size in omega arith
+    -- names outside of the children
+    away : (x : ℕ) → Lacks (names_below (row children)) x → (i : ℕ) → i < length sub → x ≢ get_or sub i 0
+    away x lacks i below same =
+        clash (subst (Has (names_below (row children))) (sym same) (at_inside (row children) i (get_or sub i 0) (least_here children sub children_least i below).member)) lacks
+
+    before_apart : (i x : ℕ) → i < first → Has (names_at (row ts) i) x → Lacks (names_below (row children)) x
+    before_apart i x less here = lacks_if (names_below (row children)) x (λ h.
+        let j : ℕ = position_of (row children) x in
+        let there : Has (names_at (row ts) (first + j)) x = Has-along (names_at (row children) j) (names_at (row ts) (first + j)) (at_drop ts first j (first + j) refl) x (at_position (row children) x h) in
+        clash there (at_apart (row ts) r.walked.kept.apart i (first + j) (omega arith) (names_at (row ts) i) (names_at (row ts) (first + j)) refl refl x here))
+
+    children_seen : Within (names_below (row children)) seen
+    children_seen x h = (r.walked.kept.same x).1 (subst (λ us. Has (names_below (row us)) x) (take-append-drop first ts) (names_right (take first ts) children x h))
+
+    -- the colour of a name of another tree is that of its least name, which is among the others
+    module _ (others : NameSet) (left : HasOthers live sub others) (alike : AreAlike v.colours others sub) where
+      modules : (c : PlainTreeOf K P) → IsChild (row ts) c → IsModule v.colours v.vertices (names c)
+      modules = child_modules v.vertices (FitsView v) (λ k cs ps f. f.is_module) (row ts) r.walked.fit below_seen
+
+      alike_read : (y : ℕ) → Has seen y → Lacks (names_below (row children)) y → (k : ℕ) → k < length sub → v.colours (get_or sub 0 0) y ≡ v.colours (get_or sub k 0) y
+      alike_read y read lacks k below =
+          let i : ℕ = position_of (row ts) y in
+          let here : Has (names_at (row ts) i) y = at_position (row ts) y ((r.walked.kept.same y).0 read) in
+          let size : count (row ts) ≡ length ts = count_row ts in
+          let same = same_least in
+          let some : i < count (row ts) = position_below (row ts) i y here in
+          let bound : i < length list = omega arith in
+          let m : ℕ = get_or list i 0 in
+          let own : Has (names_at (row ts) i) m = (least_here ts list r.walked.kept.least i bound).member in
+          let less : i < first = before y i here lacks in
+          let free : Has others m = left m (r.walked.least i bound) (away m (before_apart i m less own)) in
+          let c : (c : PlainTreeOf K P) × IsChild (row ts) c × (names_at (row ts) i ≡ names c) = child_at (row ts) i y here in
+          let to_least : (j : ℕ) → j < length sub → v.colours (get_or sub j 0) y ≡ v.colours (get_or sub j 0) m = λ j l.
+          (modules c.0 c.1).alike y m (get_or sub j 0) (Has-along (names_at (row ts) i) (names c.0) c.2 y here) (Has-along (names_at (row ts) i) (names c.0) c.2 m own)
+          (below_seen (get_or sub j 0) (sub_below j l))
+          (lacks_if (names c.0) (get_or sub j 0) (λ h. clash (sub_child j l) (before_apart i (get_or sub j 0) less (Has-along (names c.0) (names_at (row ts) i) (sym c.2) (get_or sub j 0) h)))) in
+          to_least 0 (omega arith) ∙ alike k m below free ∙ sym (to_least k below)
+        where
+          sub_child : (j : ℕ) → j < length sub → Has (names_below (row children)) (get_or sub j 0)
+          sub_child j l = at_inside (row children) j (get_or sub j 0) (least_here children sub children_least j l).member
+
+          sub_below : (j : ℕ) → j < length sub → Has (names_below (row ts)) (get_or sub j 0)
+          sub_below j l = (r.walked.kept.same (get_or sub j 0)).0 (children_seen (get_or sub j 0) (sub_child j l))
+
+          before : (x i : ℕ) → Has (names_at (row ts) i) x → Lacks (names_below (row children)) x → i < first
+          before x i here lacks = elim (cases_lt i first) [
+            | inl less ↦ less
+            | inr over ↦ clash (at_inside (row children) (i - first) x (Has-along (names_at (row ts) i) (names_at (row children) (i - first)) (sym (at_drop ts first (i - first) i (omega arith))) x here)) lacks
+          ]
+
+      alike_outside : AreAlike v.colours (difference v.vertices (names_below (row children))) sub
+      alike_outside k y below h =
+          let two = of_minus v.vertices (names_below (row children)) y h in
+          elim (cases_Bool (contains seen y)) [
+            | inl read ↦ alike_read y read two.1 k below
+            | inr unread ↦ alike k y below (left y (r.walked.unseen y two.0 unread) (away y two.1))
+          ]
+
+      -- what is live when the node takes the place of its children
+      live_then : (low : ℕ) (longer : List ℕ) (new : NameSet) → longer ≡ take first list ++ low ∷ [] → new ≡ insert others low →
+          ((x : ℕ) → Has v.vertices x → Lacks seen x → Has new x) × AreLive longer new
+      live_then low longer new put made = (
+        λ x h lacks. grown x (left x (r.walked.unseen x h lacks) (away x (lacks_within (names_below (row children)) seen children_seen x lacks))),
+        live_push (take first list) longer low new put front (subst (λ s. Has s low) (sym made) (insert_new others low)),
+      ) where
+        grown : (x : ℕ) → Has others x → Has new x
+        grown x h = subst (λ s. Has s x) (sym made) (insert_old others low x h)
+
+        front : AreLive (take first list) new
+        front i below =
+            let f = first_within in
+            let size : length (take first list) ≡ first = length-take-le first list (omega arith) in
+            let less : i < first = omega arith in
+            let bound : i < length list = omega arith in
+            let own : Has (names_at (row ts) i) (get_or list i 0) = (least_here ts list r.walked.kept.least i bound).member in
+            grown (get_or (take first list) i 0)
+            (subst (Has others) (sym (get_or-take first list i 0 less)) (left (get_or list i 0) (r.walked.least i bound) (away (get_or list i 0) (before_apart i (get_or list i 0) less own))))
+
+  module _ (is_view : IsView kinds pairs v) (ps : List P) (sub : List ℕ) (is_sub : sub ≡ drop first list) (up : AscendsIf (kinds.sorts inner.kind) sub) (sub_roots : List (Option K)) (are_roots : sub_roots ≡ drop first roots)
+      (has : MayHaveKinds kinds inner.kind sub_roots) (asked : v.Admits inner.kind (row (drop inner.first r.trees))) (low : ℕ) (is_low : IsMinimum sub low) (lists : MayListIf pairs (kinds.lists inner.kind) (length sub) ps) (others : NameSet) (left : HasOthers live sub others)
+      (fit : IsFitView v others inner.kind ps sub) where
+    abbrev made : PlainTreeOf K P
+    made = node inner.kind (row children) ps
+
+    abbrev Canonical : K → PlainTreesOf K P → List P → Type 0
+    Canonical = IsCanonicalNodeBy (spelling kinds pairs)
+
+    may_have : MayHave kinds inner.kind (row children)
+    may_have = has_of_kinds kinds inner.kind children (subst (MayHaveKinds kinds inner.kind) (inside_roots sub_roots are_roots) has)
+
+    sub_size : length sub ≡ length ts - first
+    sub_size = sub_length sub is_sub ∙ ap (λ n. n - first) (sym same_least)
 
     kept : AreKept (spelling kinds pairs) NAMES (take first ts ++ made ∷ []) (take first list ++ low ∷ []) seen
     kept =
         kept_closed law ts list seen first inner.kind ps low inside r.walked.kept may_have (subst (λ n. MayListIf pairs (kinds.lists inner.kind) n ps) sub_size lists) (subst (AscendsIf (kinds.sorts inner.kind)) is_sub up)
-        (subst (λ l. IsMinimum l low) is_sub (least_minimum (kinds.sorts inner.kind) children sub m low children_least sub_some up same_names is_low))
+        (subst (λ l. IsMinimum l low) is_sub is_low)
 
     canonical : Canonical inner.kind (row children) ps × EachNodeBelow Canonical (row children)
     canonical = (each_parts Canonical (take first ts) (made ∷ []) kept.canonical).1.0
@@ -241,11 +336,14 @@ module _ {K P : Type 0} {kinds : KindRules K} {pairs : PairRules P} (law : IsSpe
     fits : EachNodeBelow (FitsView v) (row (take first ts)) × EachNodeBelow (FitsView v) (row children)
     fits = each_parts (FitsView v) (take first ts) children (subst (λ us. EachNodeBelow (FitsView v) (row us)) (sym (take-append-drop first ts)) r.walked.fit)
 
+    admitted : EachNodeBelow (AdmitsNode v) (row (take first ts)) × EachNodeBelow (AdmitsNode v) (row children)
+    admitted = each_parts (AdmitsNode v) (take first ts) children (subst (λ us. EachNodeBelow (AdmitsNode v) (row us)) (sym (take-append-drop first ts)) r.walked.admitted)
+
     children_within : Within (names_below (row children)) v.vertices
-    children_within x h = below_seen x (subst (λ us. Has (names_below (row us)) x) (take-append-drop first ts) (names_right (take first ts) children x h))
+    children_within x h = r.walked.within x (children_seen sub is_sub x h)
 
     mods : (c : PlainTreeOf K P) → IsChild (row children) c → IsModule v.colours v.vertices (names c)
-    mods = child_modules v.vertices (FitsView v) (λ k cs qs f. f.is_module) (row children) fits.1 children_within
+    mods = child_modules v.vertices (FitsView v) (λ k cs ps f. f.is_module) (row children) fits.1 children_within
 
     own_heads : (i : ℕ) → i < count (row children) → Has (names_at (row children) i) (head_at (row children) i)
     own_heads = heads_in Canonical some_child (row children) canonical.1
@@ -259,19 +357,23 @@ module _ {K P : Type 0} {kinds : KindRules K} {pairs : PairRules P} (law : IsSpe
 
     made_fits : FitsView v inner.kind (row children) ps
     made_fits =
-        named_fit is_view.turns is_view.told v.puts v.prime v.vertices inner.kind children ps sub children_least (some_child inner.kind (row children) ps canonical.0) three canonical.0.apart own_heads children_within mods
-        (subst (λ w. IsFitBy v.puts (λ k. k ≡ v.prime) v.colours v.vertices w inner.kind ps sub) same_names fit)
+        named_fit is_view.turns is_view.told v.puts v.prime v.vertices inner.kind children ps sub (children_least sub is_sub) (some_child inner.kind (row children) ps canonical.0) three canonical.0.apart own_heads children_within mods
+        (record { alike = alike_outside sub is_sub others left fit.alike; joined = fit.joined; trivial = fit.trivial })
 
-    pub read_end : (tail : List ℕ) (more : List NameSet) (longer : List ℕ) (roots_more : List (Option K)) → text ≡ pairs_text_by pairs 59 ps ++ 41 ∷ tail → more ≡ take first sets ++ m ∷ [] → longer ≡ take first list ++ low ∷ [] →
-        roots_more ≡ take first roots ++ Some inner.kind ∷ [] → IsReadBy kinds pairs v bytes tail true more longer roots_more opens seen
-    read_end tail more longer roots_more is push put kind = record {
-      trees = take first ts ++ made ∷ [];
-      walked = record {
-        kept = subst (λ l. AreKept (spelling kinds pairs) NAMES (take first ts ++ made ∷ []) l seen) (sym put) kept;
-        sets_are = push ∙ ap (λ s. take first sets ++ s ∷ []) same_names ∙ ap (λ l. l ++ names_below (row children) ∷ []) (ap (take first) r.walked.sets_are ∙ take-map names first ts) ∙ sym (map-append names (take first ts) (made ∷ []));
-        roots_are = kind ∙ ap (λ l. l ++ Some inner.kind ∷ []) (ap (take first) r.walked.roots_are ∙ take-map root_kind first ts) ∙ sym (map-append root_kind (take first ts) (made ∷ []));
-        fit = each_join (FitsView v) (take first ts) (made ∷ []) fits.0 ((made_fits, fits.1), tt);
-        within = r.walked.within;
-      };
-      comes = inside_end law bytes text inner opens ts r.comes ps tail is;
-    }
+    pub read_end : (tail : List ℕ) (longer : List ℕ) (roots_more : List (Option K)) (new : NameSet) → text ≡ pairs_text_by pairs 59 ps ++ 41 ∷ tail → longer ≡ take first list ++ low ∷ [] →
+        roots_more ≡ take first roots ++ Some inner.kind ∷ [] → new ≡ insert others low → IsReadBy kinds pairs v bytes tail true longer roots_more opens seen new
+    read_end tail longer roots_more new is put kind grows =
+        let lives = live_then sub is_sub others left fit.alike low longer new put grows in
+        record {
+          trees = take first ts ++ made ∷ [];
+          walked = record {
+            kept = subst (λ l. AreKept (spelling kinds pairs) NAMES (take first ts ++ made ∷ []) l seen) (sym put) kept;
+            roots_are = kind ∙ ap (λ l. l ++ Some inner.kind ∷ []) (ap (take first) r.walked.roots_are ∙ take-map root_kind first ts) ∙ sym (map-append root_kind (take first ts) (made ∷ []));
+            fit = each_join (FitsView v) (take first ts) (made ∷ []) fits.0 ((made_fits, fits.1), tt);
+            admitted = each_join (AdmitsNode v) (take first ts) (made ∷ []) admitted.0 ((asked, admitted.1), tt);
+            within = r.walked.within;
+            unseen = lives.0;
+            least = lives.1;
+          };
+          comes = inside_end law bytes text inner opens ts r.comes ps tail is;
+        }

@@ -45,17 +45,17 @@ pub record AreHeads (s : NameSet) (ps : List Pair) (list : List ℕ) : Type 0 wh
   pub positions : (i : ℕ) (d : Pair) → i < length ps →
       ((get_or ps i d).low < length list) × ((get_or ps i d).high < length list)
 
--- a node of kind k with the leaf set m, the pairs ps and these heads fits the pairs of s with their colours e, where its children
--- do; `puts` says which colour a node puts between two of its children, the earlier one first
-pub record IsFitBy {K P C : Type 0} (puts : K → List P → ℕ → ℕ → C) (IsPrimeKind : K → Type 0) (e : ℕ → ℕ → C) (s m : NameSet)
+-- a node of kind k outside of which are the others, with the pairs ps and these heads, fits the pairs of names with their colours e,
+-- where its children do; `puts` says which colour a node puts between two of its children, the earlier one first
+pub record IsFitBy {K P C : Type 0} (puts : K → List P → ℕ → ℕ → C) (IsPrimeKind : K → Type 0) (e : ℕ → ℕ → C) (others : NameSet)
     (k : K) (ps : List P) (list : List ℕ) : Type 0 where
-  pub alike : AreAlike e (difference s m) list
+  pub alike : AreAlike e others list
   pub joined : AreJoinedBy (puts k ps) e list
   pub trivial : IsPrimeKind k → HasTrivialModulesAlone e (from_list list)
 
--- the same of a graph on s
+-- the same of a graph on s, and a node with the leaf set m
 abbrev pub IsFit : (ℕ → ℕ → Bool) → NameSet → NameSet → Kind → List Pair → List ℕ → Type 0
-IsFit = IsFitBy joins (λ k. k ≡ Prime)
+IsFit e s m = IsFitBy joins (λ k. k ≡ Prime) e (difference s m)
 
 -- each node of the trees is one of those that fit, and their names are in s
 pub record AreFitBy {K P : Type 0} (IsFitting : K → PlainTreesOf K P → List P → Type 0) (s : NameSet) (ts : List (PlainTreeOf K P))

@@ -1,9 +1,6 @@
 -- The pairs that a prime node lists, by the names that stand for its children.
 -- Source: Habib and Paul, A survey of the algorithmic aspects of modular decomposition; the order of the pairs is our own.
-use Rattle.std.specs.Prelude.{◌≡◌, ℕ, suc, ◌<◌, Bool, cond, List, [], ◌∷◌, ◌++◌, length, ⊤}
-use Rattle.md_text.specs.declared.piece.Piece.{Piece}
-use Rattle.md_text.specs.Numbers.{decimal}
-use Rattle.md_text.specs.Pieces.{text_at}
+use Rattle.std.specs.Prelude.{◌≡◌, ℕ, List, [], ◌∷◌}
 use Rattle.md_tree.specs.Spellings.{PairRules}
 use Rattle.md_tree.specs.TreeTexts.{pairs_text_by}
 use Rattle.md_checker.specs.Gathered.{Matches}
@@ -14,32 +11,7 @@ mark_behind [] = 59
 mark_behind (p ∷ ps) = 44
 
 module _ {P : Type 0} (r : PairRules P) where
-  -- the pairs of the position `low`, where the name v stands, with those of the names that it has a pair with, of which the first
-  -- stands at the position j
-  abbrev pub near_pairs : (ℕ → ℕ → Bool) → ℕ → ℕ → ℕ → List ℕ → List P
-  near_pairs e v low j [] = []
-  near_pairs e v low j (w ∷ ws) = cond (e v w) (r.pair low j ∷ near_pairs e v low (suc j) ws) (near_pairs e v low (suc j) ws)
-
-  -- the pairs of some of the names of a list, of which the first stands at the position i, with all of them
-  abbrev pub pairs_from : (ℕ → ℕ → Bool) → List ℕ → ℕ → List ℕ → List P
-  pairs_from e list i [] = []
-  pairs_from e list i (v ∷ vs) = near_pairs e v i 0 list ++ pairs_from e list (suc i) vs
-
-  -- the pairs of positions of the names of a list, in ascending order
-  abbrev pub head_pairs : (ℕ → ℕ → Bool) → List ℕ → List P
-  head_pairs e list = pairs_from e list 0 list
-
   -- the text begins with the pairs, as far as the rest begins with the bytes that are gathered
   pub record MatchesPairs (text rest : List ℕ) (mark : ℕ) (gathered : List ℕ) (ps : List P) : Type 0 where
     pub mark_is : mark ≡ mark_behind ps
     pub matches : Matches text rest gathered (pairs_text_by r 59 ps)
-
--- the names that v has a pair with
-abbrev pub near_heads : (ℕ → ℕ → Bool) → ℕ → List ℕ → List ℕ
-near_heads e v [] = []
-near_heads e v (w ∷ ws) = cond (e v w) (w ∷ near_heads e v ws) (near_heads e v ws)
-
--- at the place of each head stands its position, of which the first is j
-abbrev pub SpellPositions : List Piece → ℕ → List ℕ → Type 0
-SpellPositions pieces j [] = ⊤
-SpellPositions pieces j (w ∷ ws) = (w < length pieces) × (text_at pieces w ≡ decimal j) × SpellPositions pieces (suc j) ws

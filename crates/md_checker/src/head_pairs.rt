@@ -3,7 +3,8 @@ ghost use Rattle.std.specs.Prelude.{◌≡◌, ◌≢◌, ◌+◌, ◌<◌, ◌�
 ghost use Rattle.std.specs.List.{All};
 ghost use Rattle.md_graph.specs.declared.TheConstants.{NAMES, WORDS};
 ghost use Rattle.md_tree.specs.TreeTexts.{pairs_text_by};
-ghost use Rattle.md_checker.specs.HeadPairs.{near_heads, near_pairs, head_pairs, SpellPositions, MatchesPairs};
+ghost use Rattle.md_outline.specs.HeadPairs.{near_heads, near_pairs, head_pairs, SpellPositions};
+ghost use Rattle.md_checker.specs.HeadPairs.{MatchesPairs};
 ghost use Rattle.md_checker.specs.TextViews.{StandForChildren};
 
 use crate::piece_compare::{past_each, put_pair};

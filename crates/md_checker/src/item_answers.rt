@@ -22,14 +22,11 @@ ghost use Rattle.md_report.specs.Steps.{state_of};
 ghost use Rattle.md_checker.specs.Judged.{IsJudged, IsTried};
 ghost use Rattle.md_checker.specs.ReportLines.{plain_report_line, HasWellFormedTree};
 ghost use Rattle.md_checker.specs.Standing.{Takes};
-ghost use Rattle.md_checker.specs.States.{IsStateText};
 
 use crate::class_test::makes_bar;
-use crate::judgements::{
-    bars_state, is_tree_of_class, is_tree_of_cograph, is_true, is_word_and_state,
-};
+use crate::judgements::{bars_state, is_tree_of_class, is_tree_of_cograph, is_true};
 use crate::report_line::ReportLine;
-use crate::text_fit::is_word_and_tree;
+use crate::state_text::is_word_and_state;
 use crate::tree_fit::fits;
 use md_bar::{Bar, Class};
 use md_graph::{GraphOf, Memory};
@@ -475,7 +472,7 @@ pub(crate) fn applies_by_text<const W: usize>(
     history.reserve(alloc, 2)?;
     let past = inverse(graph, edit);
     apply(graph, edit);
-    let fit = is_led_text(alloc, mode, graph, edit, text);
+    let fit = is_word_and_state(alloc, mode, graph, b"ok ", text);
     if is_true(&fit) {
         history.open_item();
         history.push(past);
@@ -483,26 +480,4 @@ pub(crate) fn applies_by_text<const W: usize>(
     }
     take_back(graph, &past);
     fit
-}
-
-// Whether the text is that of a line that tells the tree of the graph, to which the edit led, and
-// which may be a state of a session of the mode; a false says nothing. Condition: the graph before
-// was such a state.
-fn is_led_text<const W: usize>(
-    alloc: Global,
-    mode: SessionMode,
-    graph: &GraphOf<W>,
-    edit: &Edit,
-    text: &[u8],
-) -> Result<bool, Memory>
-    requires led { (g : PlainGraph) × Led (64 * W) g edit.now graph.now × IsAllowed mode g }
-    ensures { IfOk result (λ fit. IsTrue fit
-        → IsStateText mode graph.now (codes "ok ") text.now) }
-{
-    match mode {
-        SessionMode::Of(class) => {
-            Ok(is_word_and_tree(alloc, graph, b"ok ", text)? && !makes_bar(graph, class, edit))
-        }
-        _ => is_word_and_state(alloc, mode, graph, b"ok ", text),
-    }
 }

@@ -16,12 +16,10 @@ ghost use Rattle.md_report.specs.Cographs.{IsPathOf, IsCograph, HasP4Line, IsOpe
 ghost use Rattle.md_report.specs.Classes.{IsAllowedIn, HasBarLine, IsClassOpening};
 ghost use Rattle.md_report.specs.ItemLines.{IsBarred};
 ghost use Rattle.md_checker.specs.ReportLines.{plain_report_line, HasWellFormedTree};
-ghost use Rattle.md_checker.specs.States.{IsStateText};
 
 use crate::certificates::{is_forcing_chain, is_least_edge_orientation, realise};
 use crate::fixed_lines::is_end;
 use crate::report_line::ReportLine;
-use crate::text_fit::{is_word_and_cotree, is_word_and_tree};
 use crate::tree_fit::fits;
 use md_bar::{Bar, BarKind, Class, bar_of, is_bar};
 use md_comparability::{ClassOrChosen, orient_classes};
@@ -184,26 +182,6 @@ pub(crate) fn reports_state<const W: usize>(
         SessionMode::Cograph => is_opening_line(alloc, graph, line),
         SessionMode::Quiet => Ok(is_path_line(graph, line)),
         SessionMode::Of(class) => is_class_opening(alloc, class, graph, line),
-    }
-}
-
-// Whether the text is the word and behind it that of the tree of the graph, which may be a state of
-// a session of the mode; a false says nothing. On a class it is always false, since the text alone
-// shows no bar.
-pub(crate) fn is_word_and_state<const W: usize>(
-    alloc: Global,
-    mode: SessionMode,
-    graph: &GraphOf<W>,
-    word: &[u8],
-    text: &[u8],
-) -> Result<bool, Memory>
-    ensures { IfOk result (λ fit. IsTrue fit → IsStateText mode graph.now word.now text.now) }
-{
-    match mode {
-        SessionMode::Edit => is_word_and_tree(alloc, graph, word, text),
-        SessionMode::Cograph => is_word_and_cotree(alloc, graph, word, text),
-        SessionMode::Quiet => is_word_and_cotree(alloc, graph, word, text),
-        SessionMode::Of(_) => Ok(false),
     }
 }
 

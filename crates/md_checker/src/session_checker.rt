@@ -16,8 +16,9 @@ ghost use Rattle.md_checker.specs.Standing.{session_place, IsStep, MayTell, Take
 use crate::cograph_test::is_cograph;
 use crate::fixed_lines::{is_end, is_session_head};
 use crate::item_answers::{answers_item, applies_by_text};
-use crate::judgements::{closes_items, is_word_and_state, reports_state};
+use crate::judgements::{closes_items, reports_state};
 use crate::report_line::ReportLine;
+use crate::state_text::is_word_and_state;
 use md_graph::{GraphOf, Memory};
 use md_report::{Line, SessionMode};
 use md_script::{HistoryOf, Item, Script};

@@ -2,21 +2,14 @@
 //! decides the same of a tree that is there.
 ghost use Rattle.std.specs.Prelude.{◌≡◌, ◌++◌, true, Some, IfOk, IsTrue};
 ghost use Rattle.md_graph.specs.PlainGraph.{adjacent};
-ghost use Rattle.md_tree.specs.declared.Kind.TheVariants.{Prime};
 ghost use Rattle.md_tree.specs.StrongTrees.{IsTreeOf};
 ghost use Rattle.md_tree.specs.Trees.{PlainTree};
-ghost use Rattle.md_tree.specs.Spellings.{graph_pairs};
 ghost use Rattle.md_tree.specs.TreeTexts.{tree_text};
 ghost use Rattle.md_tree.specs.WellFormed.{IsWellFormed};
-ghost use Rattle.md_report.specs.Cographs.{IsCograph};
-ghost use Rattle.md_checker.specs.FitTests.{IsFit};
-ghost use Rattle.md_checker.specs.HeadPairs.{head_pairs};
-ghost use Rattle.md_checker.specs.GraphViews.{is_edge_up};
-ghost use Rattle.md_checker.specs.TextViews.{StandForChildren};
 
 use crate::text_graph::TextGraph;
 use crate::text_walk::is_text_by_rows;
-use crate::tree_fit::{are_alike, has_trivial_modules_alone, is_fit};
+use crate::tree_fit::has_trivial_modules_alone;
 use md_graph::{GraphOf, Memory, Set};
 use md_tree::{Kind, Pair};
 use std::alloc::Global;
@@ -35,39 +28,26 @@ impl<const W: usize> TextGraph<Kind, Pair, W> for GraphOf<W> {
         (self.row(v), v + 1)
     }
 
-    fn is_fit_node(
-        &self,
-        alloc: Global,
-        names: &Set<W>,
-        kind: Kind,
-        heads: &[u32],
-    ) -> Result<bool, Memory> {
+    fn admits(&self, _: Kind, _: &[Option<Kind>]) -> bool {
+        true
+    }
+
+    fn agree_on(&self, v: u32, w: u32, names: &Set<W>) -> bool {
         let _vertices = self.vertices();
+        self.row(v).agrees_on(names, self.row(w))
+    }
+
+    fn are_joined(&self, kind: Kind, v: u32, w: u32) -> bool {
         match kind {
-            Kind::Parallel => is_fit(alloc, self, names, kind, &[], heads),
-            Kind::Series => is_fit(alloc, self, names, kind, &[], heads),
-            Kind::Prime => is_prime_fit(alloc, self, names, heads),
+            Kind::Parallel => !self.has_edge(v, w),
+            Kind::Series => self.has_edge(v, w),
+            Kind::Prime => false,
         }
     }
-}
 
-// Whether a prime node with these names fits that lists the pairs with edges.
-fn is_prime_fit<const W: usize>(
-    alloc: Global,
-    graph: &GraphOf<W>,
-    names: &Set<W>,
-    heads: &[u32],
-) -> Result<bool, Memory>
-    requires heads { StandForChildren graph.now.vertices true heads.now }
-    ensures { IfOk result (λ fit. IsTrue fit → IsFit (adjacent graph.now) graph.now.vertices
-        names.now Prime (head_pairs graph_pairs (is_edge_up (adjacent graph.now)) heads.now)
-        heads.now) }
-{
-    let others = graph.vertices().minus(names);
-    if !are_alike(graph, heads, &others) {
-        return Ok(false);
+    fn has_trivial_modules_alone(&self, alloc: Global, names: &Set<W>) -> Result<bool, Memory> {
+        has_trivial_modules_alone(alloc, self, names)
     }
-    has_trivial_modules_alone(alloc, graph, &Set::from_list(heads))
 }
 
 // Whether bytes are the text of the tree of strong modules of a graph; a false says nothing.
@@ -99,25 +79,6 @@ pub(crate) fn is_word_and_tree<const W: usize>(
         Some(behind) => is_text_of_tree(alloc, graph, behind),
         None => Ok(false),
     }
-}
-
-// The same of a tree no node of which is prime, so that the graph is a cograph.
-pub(crate) fn is_word_and_cotree<const W: usize>(
-    alloc: Global,
-    graph: &GraphOf<W>,
-    word: &[u8],
-    text: &[u8],
-) -> Result<bool, Memory>
-    ensures cograph { IfOk result (λ fit. IsTrue fit → IsCograph graph.now) }
-    ensures tree { IfOk result (λ fit. IsTrue fit → (t : PlainTree)
-        × IsTreeOf (adjacent graph.now) graph.now.vertices t
-        × (text.now ≡ word.now ++ tree_text t)) }
-{
-    let _vertices = graph.vertices();
-    if text.contains(&b'R') {
-        return Ok(false);
-    }
-    is_word_and_tree(alloc, graph, word, text)
 }
 
 #[cfg(test)]

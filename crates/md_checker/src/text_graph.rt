@@ -1,9 +1,11 @@
 //! What a comparison with the text of a tree asks of a graph, of whatever kind.
-ghost use Rattle.std.specs.Prelude.{◌≡◌, ◌≤◌, ◌*◌, ◌↔◌, ℕ, true, IfOk, IsTrue};
+ghost use Rattle.std.specs.Prelude.{◌≡◌, ◌≤◌, ◌*◌, ◌↔◌, ℕ, List, [], map, true, IfOk, IsTrue};
 ghost use Rattle.md_graph.specs.declared.TheConstants.{NAMES, WORDS};
 ghost use Rattle.md_graph.specs.NameSet.{AllBelow};
-ghost use Rattle.md_graph.specs.Sets.{Has};
-ghost use Rattle.md_checker.specs.TextViews.{View, IsView, StandForChildren, IsFitView, listed_pairs};
+ghost use Rattle.md_graph.specs.Sets.{Has, Within};
+ghost use Rattle.md_modules.specs.Modules.{HasTrivialModulesAlone};
+ghost use Rattle.md_tree.specs.Trees.{PlainTreeOf, row};
+ghost use Rattle.md_checker.specs.TextViews.{View, IsView, root_kind};
 
 use md_graph::{Memory, Set};
 use md_tree::{Lettered, Paired};
@@ -29,16 +31,31 @@ pub trait TextGraph<K: Lettered, P: Paired, const W: usize> {
             ↔ (Has result.0.now y × (result.1 ≤ y)) }
         ensures few { result.1 ≤ NAMES };
 
-    /// Whether a node of the kind with these names fits, where its children do; a name of each of
-    /// them is told, and the node lists the pairs that the graph asks for. Errors: want of memory.
-    fn is_fit_node(
-        &self,
-        alloc: Global,
-        names: &Set<W>,
-        kind: K,
-        heads: &[u32],
-    ) -> Result<bool, Memory>
-        requires heads { StandForChildren (view self.now).vertices (K.rules.sorts kind) heads.now }
-        ensures fit { IfOk result (λ fit. IsTrue fit → IsFitView (view self.now) names.now kind
-            (listed_pairs K.rules P.rules (view self.now) kind heads.now) heads.now) };
+    /// Whether a node of the kind is one that is asked for, where its children have roots of these
+    /// kinds; a leaf has none.
+    fn admits(&self, kind: K, roots: &[Option<K>]) -> bool
+        ensures admitted { IsTrue result → (ts : List (PlainTreeOf K P))
+            → roots.now ≡ map root_kind ts → (view self.now).Admits kind (row ts) };
+
+    /// Whether two vertices have the same colours with each name of a set.
+    fn agree_on(&self, v: u32, w: u32, names: &Set<W>) -> bool
+        requires first { Has (view self.now).vertices v }
+        requires second { Has (view self.now).vertices w }
+        ensures agree { IsTrue result → (y : ℕ) → Has names.now y
+            → (view self.now).colours v y ≡ (view self.now).colours w y };
+
+    /// Whether two vertices have the colour that a node of the kind puts between any two of its
+    /// children; no, if it lists pairs.
+    fn are_joined(&self, kind: K, v: u32, w: u32) -> bool
+        requires first { Has (view self.now).vertices v }
+        requires second { Has (view self.now).vertices w }
+        ensures joined { IsTrue result → (i j : ℕ)
+            → (view self.now).colours v w ≡ (view self.now).puts kind [] i j };
+
+    /// Whether each module of the graph on these vertices is one of them, or all. Errors: want of
+    /// memory.
+    fn has_trivial_modules_alone(&self, alloc: Global, names: &Set<W>) -> Result<bool, Memory>
+        requires vertices { Within names.now (view self.now).vertices }
+        ensures trivial { IfOk result (λ alone. IsTrue alone
+            → HasTrivialModulesAlone (view self.now).colours names.now) };
 }

@@ -1,32 +1,34 @@
 //! Whether a text is that of the tree of a graph, of whatever kind. No tree is built. Two other
 //! machines go over the same texts: md_tree's `builder` makes the tree, and its `grammar` says
 //! where a text leaves their grammar.
-ghost use Rattle.std.specs.Prelude.{◌≡◌, ◌<◌, ◌≤◌, ◌+◌, ◌∷◌, ◌++◌, ◌↔◌, [], ℕ, List, true, false, length, drop, take, vec_len, Contains, Some, IfOk, IfSome, IsTrue};
+ghost use Rattle.std.specs.Prelude.{◌≡◌, ◌<◌, ◌≤◌, ◌⊎◌, ◌+◌, ◌*◌, ◌∷◌, ◌++◌, ◌↔◌, [], ℕ, List, true, false, length, drop, take, vec_len, Contains, Some, IfOk, IfSome, IsTrue};
+ghost use Rattle.std.specs.FinSet.{insert};
 ghost use Rattle.md_graph.specs.declared.TheConstants.{NAMES, WORDS};
 ghost use Rattle.md_text.specs.Fronts.{IsNumberSplit};
-ghost use Rattle.md_tree.specs.Held.{AscendsIf, MayListIf};
+ghost use Rattle.md_tree.specs.Held.{AscendsIf, IsMinimum, MayListIf};
 ghost use Rattle.md_tree.specs.Trees.{PlainTreeOf};
 ghost use Rattle.md_tree.specs.TreeTexts.{pairs_text_by};
-ghost use Rattle.md_checker.specs.TextFits.{opened, MayHaveKinds, IsLeastNameIf, IsRead, IsReadInside, IsReadOn};
+ghost use Rattle.md_checker.specs.TextFits.{opened, MayHaveKinds, AreLive, HasOthers, IsRead, IsReadInside, IsReadOn};
 ghost use Rattle.md_checker.specs.TextViews.{StandForChildren, IsFitView, IsTextOf, listed_pairs};
 
 use crate::head_pairs::{PairSpace, past_bracket, past_pairs};
+use crate::node_fit::is_fit_node;
 use crate::text_graph::TextGraph;
 use md_graph::{Memory, NAMES, Set};
-use md_modules::{CompactSet, union_of};
 use md_text::{skip_byte, small_number};
 use md_tree::{Lettered, Opened, Paired, ascends, split_letter};
 use std::alloc::Global;
 
-// What is kept of a text that is read: of each finished tree its names, the least of them and the
-// kind of its root, if that is a node; the nodes that are open; and all names.
+// What is kept of a text that is read: of each finished tree its least name and the kind of its
+// root, if that is a node; the nodes that are open; all names; and, so that the names outside a
+// node are few, the vertices that are not read yet and the least names of the finished trees.
 #[derive(Drop)]
 struct Walk<K: Drop, const W: usize> {
-    sets: Vec<CompactSet<W>>,
     least: Vec<u32>,
     roots: Vec<Option<K>>,
     opens: Vec<Opened<K>>,
     seen: Set<W>,
+    live: Set<W>,
     space: PairSpace,
 }
 
@@ -43,16 +45,16 @@ pub fn is_text_by_rows<K: Lettered, P: Paired, G: TextGraph<K, P, W>, const W: u
     ensures text { IfOk result (λ fit. IsTrue fit → (t : PlainTreeOf K P)
         × IsTextOf K.rules P.rules (G.view graph.now) text.now t) }
 {
-    let size = graph.vertices().count() as usize;
-    let sets = Vec::with_capacity(alloc, size)?;
+    let vertices = graph.vertices();
+    let size = vertices.count() as usize;
     let least = Vec::with_capacity(alloc, size)?;
     let roots = Vec::with_capacity(alloc, size)?;
     let mut walk = Walk {
-        sets,
         least,
         roots,
         opens: Vec::new(alloc),
         seen: Set::none(),
+        live: vertices.copy(),
         space: PairSpace::new(alloc),
     };
     let mut rest = text;
@@ -133,7 +135,6 @@ fn take_name<'a, K: Lettered, P: Paired, G: TextGraph<K, P, W>, const W: usize>(
         return Ok(None);
     }
     walk.seen.insert(name);
-    walk.sets.push(CompactSet::one(name))?;
     walk.least.push(name)?;
     walk.roots.push(None)?;
     Ok(Some((tail, true)))
@@ -210,47 +211,45 @@ fn end_node<'a, K: Lettered, P: Paired, G: TextGraph<K, P, W>, const W: usize>(
     walk.seen.within_limit();
     let _vertices = graph.vertices();
     let first = inner.first as usize;
-    if !may_have(inner.kind, &walk.roots[first..]) {
+    let roots = &walk.roots[first..];
+    if !may_have(inner.kind, roots) {
         return Ok(None);
     }
-    if !may_stand(inner.kind, &walk.least[first..]) {
+    if !graph.admits(inner.kind, roots) {
         return Ok(None);
     }
-    let names = union_of(&walk.sets[first..]);
     let heads = &walk.least[first..];
-    let Some(least) = least_name(inner.kind, heads, &names) else {
+    if !may_stand(inner.kind, heads) {
         return Ok(None);
-    };
-    let space = &mut walk.space;
-    let Some(tail) = past_end::<K, P, G, W>(alloc, graph, text, inner.kind, &names, heads, space)?
+    }
+    let least = least_name(inner.kind, heads);
+    let (live, space) = (&mut walk.live, &mut walk.space);
+    let Some(tail) = past_end::<K, P, G, W>(alloc, graph, text, inner.kind, heads, live, space)?
     else {
         return Ok(None);
     };
-    close(alloc, inner, names, least, walk)?;
+    close(inner, least, walk)?;
     Ok(Some(tail))
 }
 
 // A node takes the place of its children.
 fn close<K: Lettered, const W: usize>(
-    alloc: Global,
     inner: Opened<K>,
-    names: Set<W>,
     least: u32,
     walk: &mut Walk<K, W>,
 ) -> Result<(), Memory>
-    requires sets { inner.first ≤ vec_len walk.old.sets }
-    ensures sets { IfOk result (λ _. walk.new.sets.items
-        ≡ take inner.first walk.old.sets.items ++ names.entry ∷ []) }
+    requires name { least < 64 * W }
+    requires first { inner.first ≤ vec_len walk.old.least }
     ensures least { IfOk result (λ _. walk.new.least.items
         ≡ take inner.first walk.old.least.items ++ least ∷ []) }
     ensures roots { IfOk result (λ _. walk.new.roots.items
         ≡ take inner.first walk.old.roots.items ++ Some inner.kind ∷ []) }
     ensures opens { walk.new.opens.items ≡ walk.old.opens.items }
     ensures seen { walk.new.seen ≡ walk.old.seen }
+    ensures live { walk.new.live ≡ insert walk.old.live least }
 {
     let first = inner.first as usize;
-    walk.sets.truncate(first);
-    walk.sets.push(CompactSet::of(alloc, &names)?)?;
+    walk.live.insert(least);
     walk.least.truncate(first);
     walk.least.push(least)?;
     walk.roots.truncate(first);
@@ -258,29 +257,31 @@ fn close<K: Lettered, const W: usize>(
     Ok(())
 }
 
-// What stands behind the pairs and the bracket of a node of these names, if it fits; the least
-// names of its children are told.
+// What stands behind the pairs and the bracket of a node, if it fits, where the least names of its
+// children are told; these leave `live`.
 fn past_end<'a, K: Lettered, P: Paired, G: TextGraph<K, P, W>, const W: usize>(
     alloc: Global,
     graph: &G,
     text: &'a [u8],
     kind: K,
-    names: &Set<W>,
     heads: &[u32],
+    live: &mut Set<W>,
     space: &mut PairSpace,
 ) -> Result<Option<&'a [u8]>, Memory>
     requires heads { StandForChildren (G.view graph.now).vertices (K.rules.sorts kind) heads.now }
     requires few { length heads.now ≤ NAMES }
+    requires live { AreLive heads.now live.old }
     ensures { IfOk result (λ o. IfSome o (λ tail. (ps : List P)
         × MayListIf P.rules (K.rules.lists kind) (length heads.now) ps
-        × IsFitView (G.view graph.now) names.now kind ps heads.now
+        × HasOthers live.old heads.now live.new
+        × IsFitView (G.view graph.now) live.new kind ps heads.now
         × (text.now ≡ pairs_text_by P.rules 59 ps ++ 41 ∷ tail.now))) }
 {
-    names.within_limit();
+    live.within_limit();
     let Some(tail) = past_listed::<K, P, G, W>(graph, text, kind, heads, space)? else {
         return Ok(None);
     };
-    if !graph.is_fit_node(alloc, names, kind, heads)? {
+    if !is_fit_node::<K, P, G, W>(alloc, graph, kind, heads, live)? {
         return Ok(None);
     }
     Ok(Some(tail))
@@ -349,12 +350,36 @@ fn may_stand<K: Lettered>(kind: K, least: &[u32]) -> bool
 }
 
 // The least name of a node, which is that of its first child where the children ascend.
-fn least_name<K: Lettered, const W: usize>(kind: K, least: &[u32], names: &Set<W>) -> Option<u32>
-    requires { 0 < length least.now }
-    ensures { IfSome result (IsLeastNameIf (K.rules.sorts kind) least.now names.now) }
+fn least_name<K: Lettered>(kind: K, least: &[u32]) -> u32
+    requires some { 0 < length least.now }
+    requires ascends { AscendsIf (K.rules.sorts kind) least.now }
+    ensures { IsMinimum least.now result }
 {
     if kind.sorts() {
-        return Some(least[0]);
+        return least[0];
     }
-    names.first_from(0)
+    least_of(least)
+}
+
+// The least of some numbers.
+fn least_of(numbers: &[u32]) -> u32
+    requires { 0 < length numbers.now }
+    ensures { IsMinimum numbers.now result }
+{
+    let mut least = numbers[0];
+    for number in numbers {
+        least = lesser(*number, least);
+    }
+    least
+}
+
+fn lesser(first: u32, second: u32) -> u32
+    ensures one { (result ≡ first) ⊎ (result ≡ second) }
+    ensures first { result ≤ first }
+    ensures second { result ≤ second }
+{
+    if first < second {
+        return first;
+    }
+    second
 }

@@ -146,7 +146,7 @@ fn put_node<const W: usize>(
 }
 
 // Whether a node with these names, pairs and heads of its children fits, where the children do.
-pub(crate) fn is_fit<const W: usize>(
+fn is_fit<const W: usize>(
     alloc: Global,
     graph: &GraphOf<W>,
     names: &Set<W>,
@@ -174,7 +174,7 @@ pub(crate) fn is_fit<const W: usize>(
 }
 
 // Whether each of the others is adjacent to all names of the list, or to none of them.
-pub(crate) fn are_alike<const W: usize>(graph: &GraphOf<W>, list: &[u32], others: &Set<W>) -> bool
+fn are_alike<const W: usize>(graph: &GraphOf<W>, list: &[u32], others: &Set<W>) -> bool
     requires some { 0 < length list.now }
     requires names { (i : ℕ) → i < length list.now → get_or list.now i 0 < 64 * W }
     ensures { IsTrue result ↔ AreAlike (adjacent graph.now) others.now list.now }

@@ -7,6 +7,3 @@ mod session;
 mod undoing;
 
 pub use session::{ClassOpened, ClassOpenedOf, ClassSession, ClassSessionOf};
-
-#[cfg(test)]
-mod tests;

@@ -9,6 +9,3 @@ mod last_item;
 pub use changes::{change, change_back, p4_behind};
 pub use first_path::any_p4;
 pub use last_item::take_back_item;
-
-#[cfg(test)]
-mod tests;

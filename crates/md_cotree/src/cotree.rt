@@ -62,33 +62,3 @@ pub fn keep_place(places: &mut Vec<Option<u32>>, name: u32, place: u32)
     }
     places[name as usize] = Some(place);
 }
-
-#[cfg(test)]
-mod tests {
-    use super::*;
-    use crate::from_tree;
-    use md_tree::Tree;
-    use std::test::Fail;
-
-    #[test]
-    fn no_vertex(rt: HostRuntime) -> Result<(), Fail> {
-        let cotree = Cotree::new(rt.alloc())?;
-        assert_eq!(rt; cotree.node_count(), 0);
-        assert_eq!(rt; cotree.leaves, 0);
-        assert_eq!(rt; cotree.root, None);
-        let back = cotree.to_tree(rt.alloc())?;
-        assert!(rt; matches!(&back, None));
-        Ok(())
-    }
-
-    #[test]
-    fn one_vertex(rt: HostRuntime) -> Result<(), Fail> {
-        let alloc = rt.alloc();
-        let cotree = from_tree(alloc, &Some(Tree::Leaf(7)))?;
-        assert_eq!(rt; cotree.node_count(), 1);
-        assert_eq!(rt; cotree.adjacent(7, 7), false);
-        let back = cotree.to_tree(alloc)?;
-        assert!(rt; matches!(&back, Some(Tree::Leaf(7))));
-        Ok(())
-    }
-}

@@ -10,6 +10,3 @@ mod planting;
 pub use adjacency::parent_of;
 pub use cotree::{Cotree, keep_place};
 pub use planting::from_tree;
-
-#[cfg(test)]
-mod tests;

@@ -2,7 +2,7 @@
 -- trees that it has gone through. Only private contracts cite it.
 -- Source: our own; the same test of the tree of a graph, over the arcs there and back.
 use Rattle.std.specs.Prelude.{◌≡◌, ◌≢◌, ◌<◌, ℕ, Bool, List, length, get_or}
-use Rattle.std.specs.FinSet.{contains}
+use Rattle.std.specs.FinSet.{contains, difference}
 use Rattle.md_graph.specs.Rows.{row_of}
 use Rattle.md_graph.specs.Sets.{NameSet, Has}
 use Rattle.md_digraph.specs.PlainDigraph.{PlainDigraph, has_arc_to}
@@ -31,7 +31,7 @@ pub record AreDirectedHeads (s : NameSet) (ps : List DPair) (list : List ℕ) : 
 -- a node of kind k with the leaf set m, the pairs ps and these heads fits the directed graph, where
 -- its children do
 abbrev pub IsDirectedFit : PlainDigraph → NameSet → DKind → List DPair → List ℕ → Type 0
-IsDirectedFit g = IsFitBy puts_arcs (λ k. k ≡ Prime) (between (has_arc_to g)) g.vertices
+IsDirectedFit g m = IsFitBy puts_arcs (λ k. k ≡ Prime) (between (has_arc_to g)) (difference g.vertices m)
 
 -- a node of the tree fits the directed graph
 abbrev pub FitsDigraph : PlainDigraph → DKind → PlainDTrees → List DPair → Type 0

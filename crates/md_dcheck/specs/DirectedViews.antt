@@ -1,6 +1,7 @@
 -- A directed graph as a comparison with the text of a tree sees it. Only private contracts cite it.
 -- Source: Ehrenfeucht and Rozenberg, Theory of 2-structures, for the directed graph as one of its
 -- instances.
+use Rattle.std.specs.Prelude.{⊤}
 use Rattle.md_digraph.specs.PlainDigraph.{PlainDigraph, has_arc_to}
 use Rattle.md_digraph.specs.ArcColours.{ArcColour, between}
 use Rattle.md_checker.specs.TextViews.{View}
@@ -18,4 +19,5 @@ digraph_view g = record {
   puts = puts_arcs;
   prime = Prime;
   lists = has_arc_to g;
+  Admits = λ k cs. ⊤;
 }

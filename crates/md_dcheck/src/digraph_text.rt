@@ -1,16 +1,10 @@
 //! Whether a text is that of the tree of strong modules of a directed graph. No tree is built.
-ghost use Rattle.std.specs.Prelude.{◌≡◌, ◌≤◌, true, IfOk, IsTrue};
+ghost use Rattle.std.specs.Prelude.{◌≡◌, ◌≤◌, ℕ, [], IfOk, IsTrue};
 ghost use Rattle.md_graph.specs.declared.TheConstants.{WORDS};
-ghost use Rattle.md_digraph.specs.PlainDigraph.{has_arc_to};
-ghost use Rattle.md_checker.specs.HeadPairs.{head_pairs};
-ghost use Rattle.md_checker.specs.TextViews.{StandForChildren};
-ghost use Rattle.md_dtree.specs.declared.DKind.TheVariants.{Prime};
-ghost use Rattle.md_dtree.specs.DirectedSpelling.{directed_pairs};
-ghost use Rattle.md_dcheck.specs.DirectedFitTests.{IsDirectedFit};
+ghost use Rattle.md_dtree.specs.DirectedFits.{puts_arcs};
 ghost use Rattle.md_dcheck.specs.DueDigraphs.{HasTreeText};
 
-use crate::directed_fit::is_fit;
-use crate::head_rows::are_alike;
+use crate::head_rows::has_arcs;
 use crate::lone_modules::has_trivial_modules_alone;
 use md_checker::{TextGraph, is_text_by_rows};
 use md_digraph::DigraphOf;
@@ -41,39 +35,37 @@ impl<'a, const W: usize> TextGraph<DKind, DPair, W> for DigraphText<'a, W> {
         (graph.successors(v), 0)
     }
 
-    fn is_fit_node(
-        &self,
-        alloc: Global,
-        names: &Set<W>,
-        kind: DKind,
-        heads: &[u32],
-    ) -> Result<bool, Memory> {
+    fn admits(&self, _: DKind, _: &[Option<DKind>]) -> bool {
+        true
+    }
+
+    fn agree_on(&self, v: u32, w: u32, names: &Set<W>) -> bool {
         let graph = self.graph;
-        match kind {
-            DKind::Parallel => is_fit(alloc, graph, names, kind, &[], heads),
-            DKind::Series => is_fit(alloc, graph, names, kind, &[], heads),
-            DKind::Order => is_fit(alloc, graph, names, kind, &[], heads),
-            DKind::Prime => is_prime_fit(alloc, graph, names, heads),
-        }
+        let _vertices = graph.vertices();
+        has_arcs(graph, w, names, graph.successors(v), graph.predecessors(v))
+    }
+
+    fn are_joined(&self, kind: DKind, v: u32, w: u32) -> bool {
+        let graph = self.graph;
+        are_put(kind, graph.has_arc(v, w), graph.has_arc(w, v))
+    }
+
+    fn has_trivial_modules_alone(&self, alloc: Global, names: &Set<W>) -> Result<bool, Memory> {
+        has_trivial_modules_alone(alloc, self.graph, names)
     }
 }
 
-// Whether a prime node with these names fits that lists the pairs with arcs.
-fn is_prime_fit<const W: usize>(
-    alloc: Global,
-    graph: &DigraphOf<W>,
-    names: &Set<W>,
-    heads: &[u32],
-) -> Result<bool, Memory>
-    requires heads { StandForChildren graph.now.vertices true heads.now }
-    ensures { IfOk result (λ fit. IsTrue fit → IsDirectedFit graph.now names.now Prime
-        (head_pairs directed_pairs (has_arc_to graph.now) heads.now) heads.now) }
+// Whether nodes of the kind put these arcs, there and back, between any two of their children; no,
+// if they list pairs.
+fn are_put(kind: DKind, there: bool, back: bool) -> bool
+    ensures { IsTrue result → (i j : ℕ) → (there, back) ≡ puts_arcs kind [] i j }
 {
-    let others = graph.vertices().minus(names);
-    if !are_alike(graph, heads, &others) {
-        return Ok(false);
+    match kind {
+        DKind::Parallel => !(there | back),
+        DKind::Series => there & back,
+        DKind::Order => there & !back,
+        DKind::Prime => false,
     }
-    has_trivial_modules_alone(alloc, graph, &Set::from_list(heads))
 }
 
 // Whether bytes are the text of the tree of the directed graph; a false says nothing. Errors: want

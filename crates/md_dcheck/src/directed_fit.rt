@@ -181,7 +181,7 @@ fn put_node<const W: usize>(
 }
 
 // Whether a node with these names, pairs and heads of its children fits, where the children do.
-pub(crate) fn is_fit<const W: usize>(
+fn is_fit<const W: usize>(
     alloc: Global,
     graph: &DigraphOf<W>,
     names: &Set<W>,

@@ -42,7 +42,7 @@ pub(crate) fn are_alike<const W: usize>(graph: &DigraphOf<W>, list: &[u32], othe
 
 // Whether the arcs from a vertex to names of a set run to those that `out` has, and those to it
 // from names of the set from those that `into` has.
-fn has_arcs<const W: usize>(
+pub(crate) fn has_arcs<const W: usize>(
     graph: &DigraphOf<W>,
     v: u32,
     set: &Set<W>,

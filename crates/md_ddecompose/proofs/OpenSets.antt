@@ -12,7 +12,7 @@ use Rattle.md_tree.specs.Trees.{leaf, node, names, row}
 use Rattle.md_tree.specs.Parts.{PlainPartOf, name, inner, parts_of, parts_backward}
 use Rattle.md_tree.proofs.Kinded.{built_tree}
 use Rattle.md_decompose.proofs.Joining.{weights, weights-append}
-use Rattle.md_decompose.proofs.Waiting.{no_trees, count_trees, GoesOn, IsPartOver, goes_begin, goes_more, goes_end}
+use Rattle.md_decompose.proofs.Waiting.{no_trees, count_trees, laid_parts, parts_laid, GoesOn, IsPartOver, goes_begin, goes_more, goes_end}
 use Rattle.md_dtree.specs.declared.DKind.{DKind}
 use Rattle.md_dtree.specs.declared.DPair.{DPair}
 use Rattle.md_dtree.specs.DirectedTrees.{PlainDTree, IsDirectedTreeOf}
@@ -45,7 +45,7 @@ pub record IsReady {w : ℕ} (arc : ℕ → ℕ → Bool) (all : NameSet) (o : O
 
 pub record IsOpened {w : ℕ} (arc : ℕ → ℕ → Bool) (all : NameSet) (parts : List (PlainPartOf DKind DPair)) (os : List (Open w)) : Type 0 where
   pub ready : (o : Open w) → In os o → IsReady arc all o
-  pub goes_on : GoesOn (IsDBuilt arc) all parts (sets_of os)
+  pub goes_on : GoesOn laid_parts (IsDBuilt arc) all parts (sets_of os)
 
 module _ {w : ℕ} (arc : ℕ → ℕ → Bool) (all : NameSet) where
   pub opened_begin : (o : Open w) (os : List (Open w)) (parts : List (PlainPartOf DKind DPair)) → HasSome all → o ≡ record { names = all; parent = None } → os ≡ o ∷ [] → parts ≡ [] → IsOpened arc all parts os
@@ -54,8 +54,8 @@ module _ {w : ℕ} (arc : ℕ → ℕ → Bool) (all : NameSet) where
       | inl same ↦ subst (IsReady arc all) (sym (same ∙ is)) (record { some = some; inside = λ x h. h; below = tt })
       | inr j ↦ absurd j
     ];
-    goes_on = subst (λ ps. GoesOn (IsDBuilt arc) all ps (sets_of os)) (sym none)
-        (subst (GoesOn (IsDBuilt arc) all []) (ap (λ m. m ∷ []) (sym (ap names_of is)) ∙ sym (ap sets_of alone)) (goes_begin (IsDBuilt arc) all));
+    goes_on = subst (λ ps. GoesOn laid_parts (IsDBuilt arc) all ps (sets_of os)) (sym none)
+        (subst (GoesOn laid_parts (IsDBuilt arc) all []) (ap (λ m. m ∷ []) (sym (ap names_of is)) ∙ sym (ap sets_of alone)) (goes_begin parts_laid (IsDBuilt arc) all));
   }
 
   module _ (parts : List (PlainPartOf DKind DPair)) (os waiting : List (Open w)) (o : Open w) (is : IsOpened arc all parts os) (popped : os ≡ waiting ++ o ∷ []) where
@@ -84,7 +84,7 @@ module _ {w : ℕ} (arc : ℕ → ℕ → Bool) (all : NameSet) where
         })
 
     -- the tree of o over those of its children
-    tree_over : (p : PlainPartOf DKind DPair) (added : List (Open w)) → IsDPartOf arc o.names p added → IsPartOver (IsDBuilt arc) o.names p (sets_of added)
+    tree_over : (p : PlainPartOf DKind DPair) (added : List (Open w)) → IsDPartOf arc o.names p added → IsPartOver laid_parts (IsDBuilt arc) o.names p (sets_of added)
     tree_over (name v) added part us sets each =
         (leaf v, sym part.0, tt, ap (λ ts. name v ∷ parts_backward (row ts)) (sym (no_trees us (sets ∙ ap sets_of part.1))))
     tree_over (inner k n ps) added part us sets each =
@@ -112,10 +112,10 @@ module _ {w : ℕ} (arc : ℕ → ℕ → Bool) (all : NameSet) where
           | inl a ↦ is.ready q (subst (λ ws. In ws q) (sym popped) (in_left waiting (o ∷ []) q a))
           | inr b ↦ part_ready p added part q b
         ];
-        goes_on = subst (GoesOn (IsDBuilt arc) all parts') (sym (ap sets_of left ∙ map-append names_of waiting added))
-            (subst (λ ps. GoesOn (IsDBuilt arc) all ps (sets_of waiting ++ sets_of added)) (sym later)
-            (goes_more (IsDBuilt arc) all parts (sets_of waiting) o.names
-            (subst (GoesOn (IsDBuilt arc) all parts) (ap sets_of popped ∙ map-append names_of waiting (o ∷ [])) is.goes_on)
+        goes_on = subst (GoesOn laid_parts (IsDBuilt arc) all parts') (sym (ap sets_of left ∙ map-append names_of waiting added))
+            (subst (λ ps. GoesOn laid_parts (IsDBuilt arc) all ps (sets_of waiting ++ sets_of added)) (sym later)
+            (goes_more parts_laid (IsDBuilt arc) all parts (sets_of waiting) o.names
+            (subst (GoesOn laid_parts (IsDBuilt arc) all parts) (ap sets_of popped ∙ map-append names_of waiting (o ∷ [])) is.goes_on)
             p (sets_of added) (tree_over p added part)));
       }
 
@@ -124,5 +124,5 @@ module _ {w : ℕ} (arc : ℕ → ℕ → Bool) (all : NameSet) where
 
   pub opened_end : (parts : List (PlainPartOf DKind DPair)) (os : List (Open w)) → IsOpened arc all parts os → os ≡ [] → (t : PlainDTree) × IsDirectedTreeOf arc all t × (parts ≡ parts_of t)
   opened_end parts os is none =
-      let b = goes_end (IsDBuilt arc) all parts (subst (GoesOn (IsDBuilt arc) all parts) (ap sets_of none) is.goes_on) in
+      let b = goes_end parts_laid (IsDBuilt arc) all parts (subst (GoesOn laid_parts (IsDBuilt arc) all parts) (ap sets_of none) is.goes_on) in
       (b.0, built_tree (directed_kinds_law arc) arcs_told all b.0 b.1 b.2, b.3)

@@ -13,6 +13,3 @@ mod order_search;
 mod prime;
 
 pub use decomposition::decompose_directed;
-
-#[cfg(test)]
-mod tests;

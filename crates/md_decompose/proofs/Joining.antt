@@ -1,5 +1,6 @@
 -- A node over the trees of a set's children, and how much smaller the children are.
-use Rattle.std.proofs.Common.{◌≡◌, ℕ, zero, suc, ◌+◌, ◌-◌, ◌*◌, ◌<◌, ◌≤◌, Bool, List, [], ◌∷◌, ◌++◌, length, map, refl, sym, ◌∙◌, ap, subst, inl, inr, arith}
+use Rattle.std.proofs.Common.{◌≡◌, ℕ, zero, suc, ◌+◌, ◌-◌, ◌*◌, ◌<◌, ◌≤◌, Bool, List, [], ◌∷◌, ◌++◌, length, map, reverse, refl, sym, ◌∙◌, ap, subst, inl, inr, arith}
+use Rattle.std.proofs.lemmas.List.{reverse-append}
 use Rattle.std.specs.FinSet.{len, difference}
 use Rattle.md_graph.specs.Sets.{NameSet, Has, Lacks, Within, Disjoint, HasSome, HasTwo}
 use Rattle.md_modules.specs.Modules.{IsMaximalStrong}
@@ -69,7 +70,7 @@ module _ (e : ℕ → ℕ → Bool) where
       edge = (is.edge.0, is.edge.1, subst (λ s. Has s is.edge.0) (at_position i) is.edge.2, subst (λ s. Has s is.edge.1) (at_position j) is.edge.3, is.edge.4);
     }
 
-    has_pairs : (k : Kind) (ps : List Pair) → ListsForKind e k cs ps → HasPairs e k (row ts) ps
+    pub has_pairs : (k : Kind) (ps : List Pair) → ListsForKind e k cs ps → HasPairs e k (row ts) ps
     has_pairs Parallel ps lists = lists
     has_pairs Series ps lists = lists
     has_pairs Prime ps lists =
@@ -97,12 +98,12 @@ module _ (e : ℕ → ℕ → Bool) where
           let c : IsChildSet (row ts) m.0 = to_child m.0 m.1 in
           child_inside (row ts) c.0 c.1 x (subst (λ w. Has w x) c.2 m.2))
 
-      pub node_built : (k : Kind) (ps : List Pair) → HasKind e s k → ListsForKind e k cs ps → IsBuilt e k (row ts) ps
-      node_built k ps kind lists = record {
+      pub node_built : (k : Kind) (ps : List Pair) → HasKind e s k → HasPairs e k (row ts) ps → IsBuilt e k (row ts) ps
+      node_built k ps kind pairs = record {
         node_of = record {
           kind = subst (λ w. HasKind e w k) (sym all_names) kind;
           order = in_order ts (subst (Later IsBefore) (sym same) (of_pairs IsBefore cs are.order)) (λ c i. (maximal c i).is_strong.is_module.some);
-          pairs = has_pairs k ps lists;
+          pairs = pairs;
         };
         children = λ m. (
           (λ max. to_child m (subst (λ w. IsMaximalStrong e w m) all_names max)),
@@ -118,6 +119,14 @@ weights (c ∷ cs) = (2 * len c - 1) + weights cs
 pub weights-append : (cs ds : List NameSet) → weights (cs ++ ds) ≡ weights cs + weights ds
 weights-append [] ds = omega arith
 weights-append (c ∷ cs) ds = let r : weights (cs ++ ds) ≡ weights cs + weights ds = weights-append cs ds in omega arith
+
+pub weights-reverse : (cs : List NameSet) → weights (reverse cs) ≡ weights cs
+weights-reverse [] = refl
+weights-reverse (c ∷ cs) =
+    let turned : weights (reverse (c ∷ cs)) ≡ weights (reverse cs ++ c ∷ []) = ap weights (reverse-append (c ∷ []) cs) in
+    let cut : weights (reverse cs ++ c ∷ []) ≡ weights (reverse cs) + ((2 * len c - 1) + 0) = weights-append (reverse cs) (c ∷ []) in
+    let rest : weights (reverse cs) ≡ weights cs = weights-reverse cs in
+    omega arith
 
 -- disjoint sets have no more members than a set that holds them
 pub spread : (cs : List NameSet) (s : NameSet) → ((c : NameSet) → In cs c → HasSome c × Within c s) → Later Disjoint cs → weights cs + length cs ≤ 2 * len s
@@ -154,10 +163,16 @@ module _ {e : ℕ → ℕ → Bool} (s : NameSet) where
     pub child_maximal : (c : NameSet) → In cs c → IsMaximalStrong e s c
     child_maximal c i = (are.exactly c).1 (to_contains cs c i)
 
+    children_spread : weights cs + length cs ≤ 2 * len s
+    children_spread = spread cs s (λ c i. ((child_maximal c i).is_strong.is_module.some, (child_maximal c i).is_strong.is_module.inside)) (apart cs child_maximal (of_pairs IsBefore cs are.order))
+
+    -- there are at most twice as many as names
+    pub children_few : length cs ≤ 2 * len s
+    children_few = let a : weights cs + length cs ≤ 2 * len s = children_spread in omega arith
+
     pub children_fall : HasTwo s → weights cs < 2 * len s - 1
     children_fall two =
-        let a : weights cs + length cs ≤ 2 * len s =
-        spread cs s (λ c i. ((child_maximal c i).is_strong.is_module.some, (child_maximal c i).is_strong.is_module.inside)) (apart cs child_maximal (of_pairs IsBefore cs are.order)) in
+        let a : weights cs + length cs ≤ 2 * len s = children_spread in
         let b : 2 ≤ length cs =
         two_parts s cs (two.0, two.2)
         (λ x h. let m : (m : NameSet) × IsMaximalStrong e s m × Has m x = child_of decide_test s x two h in (m.0, of_contains cs m.0 ((are.exactly m.0).0 m.1), m.2))

@@ -2,6 +2,7 @@ pub mod OrderLemmas
 pub mod ChildLemmas
 pub mod ChainLemmas
 pub mod Waiting
+pub mod Turned
 pub mod Joining
 pub mod Opened
 pub mod Components

@@ -1,5 +1,5 @@
--- The sets that wait to be taken apart, and the parts so far: whatever trees the sets have, with them the parts are those of a tree.
-use Rattle.std.proofs.Common.{◌≡◌, ℕ, suc, ◌+◌, ◌-◌, ◌*◌, ◌<◌, ◌≤◌, Bool, true, false, List, [], ◌∷◌, ◌++◌, length, map, Contains, Option, Some, None, refl, sym, ◌∙◌, ap, subst, inl, inr, arith, append_assoc, append-nil}
+-- The sets that wait to be taken apart, and what is laid down so far: whatever trees the sets have, with theirs it is what is laid down of a tree.
+use Rattle.std.proofs.Common.{◌≡◌, ℕ, suc, ◌+◌, ◌-◌, ◌*◌, ◌<◌, ◌≤◌, Bool, true, false, List, [], ◌∷◌, ◌++◌, length, map, reverse, Contains, Option, Some, None, refl, sym, ◌∙◌, ap, subst, inl, inr, arith, append_assoc, append-nil}
 use Rattle.std.proofs.lemmas.List.{map-append}
 use Rattle.std.specs.FinSet.{len}
 use Rattle.md_graph.specs.NameSet.{IsLeastFrom}
@@ -13,8 +13,9 @@ use Rattle.md_modules.proofs.Strong.{child_of}
 use Rattle.md_graph.proofs.Search.{decide_test, some_len, first_member}
 use Rattle.md_tree.specs.declared.Kind.{Kind}
 use Rattle.md_tree.specs.declared.Kind.TheVariants.{Parallel, Series, Prime}
+use Rattle.md_tree.specs.declared.Pair.{Pair}
 use Rattle.md_tree.specs.Trees.{PlainTree, leaf, node, names, row, count, EachNode, EachNodeBelow}
-use Rattle.md_tree.specs.StrongTrees.{HasKind, IsBefore, IsTreeOf}
+use Rattle.md_tree.specs.StrongTrees.{HasKind, IsBefore, HasPairs, IsTreeOf}
 use Rattle.md_text.proofs.Lists.{In, of_append, in_left, in_right, of_contains, to_contains, of_pairs}
 use Rattle.md_tree.proofs.Built.{IsBuilt}
 use Rattle.md_tree.proofs.Kinded.{built_tree}
@@ -22,14 +23,17 @@ use Rattle.md_tree.proofs.GraphKinds.{two_of_kind, kinds_of_graphs}
 use Rattle.md_decompose.specs.declared.decomposition.Open.{Open}
 use Rattle.md_decompose.specs.declared.decomposition.Open.TheVariants.{One, Several}
 use Rattle.md_decompose.specs.declared.decomposition.OpenSet.{OpenSet}
-use Rattle.md_tree.specs.Parts.{PlainPart, name, inner, parts_of, parts_backward}
+use Rattle.md_tree.specs.Parts.{PlainPart, name, inner}
+use Rattle.md_outline.specs.declared.outline.OutlinePart.{OutlinePart}
+use Rattle.md_outline.specs.declared.outline.OutlinePart.TheVariants.{Name, Node}
 use Rattle.md_decompose.specs.Children.{FitsBelow, AreChildren}
 use Rattle.md_decompose.specs.declared.nested_modules.Nested.{Nested}
 use Rattle.md_decompose.specs.Chains.{step_at, AreSteps, IsChainOf, IsChainFront}
-use Rattle.md_decompose.specs.Turns.{open_names, IsOpenOf, IsNoVertexAlone, IsUnder, FitsOpen, HasChain, HasNoChain, HasFront, sets_of, AreBare, IsFirstOpen, AreOpen, IsPartOf, TakesApart}
+use Rattle.md_decompose.specs.Turns.{open_names, IsOpenOf, IsNoVertexAlone, IsUnder, FitsOpen, HasChain, HasNoChain, HasFront, sets_of, AreBare, IsFirstOpen, AreOpen, IsNode, IsPartOf, IsOutlinePartOf, TakesApart}
 use Rattle.md_decompose.proofs.ChainLemmas.{steps_none, steps_inside}
-use Rattle.md_decompose.proofs.Waiting.{no_trees, count_trees, GoesOn, IsPartOver, goes_begin, goes_more, goes_end}
-use Rattle.md_decompose.proofs.Joining.{all_names, node_built, weights, weights-append, child_maximal, children_fall}
+use Rattle.md_decompose.proofs.Turned.{map_reverse, in_reverse, each_reverse, laid_outlines}
+use Rattle.md_decompose.proofs.Waiting.{no_trees, count_trees, IsLaidBackward, laid_parts, GoesOn, IsPartOver, goes_begin, goes_more, goes_end}
+use Rattle.md_decompose.proofs.Joining.{has_pairs, all_names, node_built, weights, weights-append, weights-reverse, child_maximal, children_fall}
 
 in_sets : {w : ℕ} (os : List (Open w)) (o : Open w) → In os o → In (sets_of os) (open_names o)
 in_sets [] o i = absurd i
@@ -129,7 +133,7 @@ module _ {e : ℕ → ℕ → Bool} where
       (steps_inside s c v (len c) chain b.chain (chained v (least_in_first s c cs are two v in_c)) child.is_strong in_c.member front refl)
 
   -- each child has modules of it
-  pub opened_children : {w : ℕ} (s : NameSet) (k : Kind) (cs : List NameSet) (chain : Nested) (os : List (Open w)) → AreChildren e s cs → HasTwo s → IsChainOf e s chain → AreOpen k cs chain os →
+  opened_children : {w : ℕ} (s : NameSet) (k : Kind) (cs : List NameSet) (chain : Nested) (os : List (Open w)) → AreChildren e s cs → HasTwo s → IsChainOf e s chain → AreOpen k cs chain os →
       (sets_of os ≡ cs) × ((o : Open w) → Contains os o → IsUnder (Some k) o × HasChain e o)
   opened_children {w} s k [] chain os are two chained is = (ap sets_of is, λ o c. absurd (of_contains [] o (subst (λ ws. Contains ws o) is c)))
   opened_children {w} s k (c ∷ cs) chain os are two chained is = (
@@ -139,6 +143,19 @@ module _ {e : ℕ → ℕ → Bool} where
       | inr i ↦ (let bare : IsUnder (Some k) q × HasNoChain q = is.4.1 q (to_contains is.1 q i) in (bare.0, bare_chain e q bare.1))
     ],
   )
+
+  pub opened_node : {w : ℕ} (s : NameSet) (k : Kind) (n : ℕ) (cs : List NameSet) (chain : Nested) (os : List (Open w)) → HasKind e s k → AreChildren e s cs → n ≡ length cs → IsChainOf e s chain →
+      AreOpen k cs chain os → IsNode e s k n os × (sets_of os ≡ cs)
+  opened_node s k n cs chain os kind are number chained is =
+      let opened = opened_children s k cs chain os are (two_of_kind e s k kind) chained is in (
+        record {
+          kind = kind;
+          children = subst (AreChildren e s) (sym opened.0) are;
+          number = number ∙ ap length (sym opened.0);
+          each = opened.1;
+        },
+        opened.0,
+      )
 
   pub chain_known : (s : NameSet) (chain : Nested) → HasSome s → IsChainOf e s chain → (k : ℕ) → k < length chain.steps.items → (step_at chain.steps.items k).to ≤ length chain.taken.items
   chain_known s chain some chained k l =
@@ -159,9 +176,15 @@ no_vertex : {w : ℕ} (p : Option Kind) (o : Open w) → IsUnder p o → HasSome
 no_vertex p (One v) below some = tt
 no_vertex p (Several b) below some = below.1 some
 
-pub record IsOpened {w : ℕ} (e : ℕ → ℕ → Bool) (all : NameSet) (parts : List PlainPart) (os : List (Open w)) : Type 0 where
+pub record IsOpened {w : ℕ} {X : Type 0} (laid : List PlainTree → List X) (e : ℕ → ℕ → Bool) (all : NameSet) (parts : List X) (os : List (Open w)) : Type 0 where
   pub ready : (o : Open w) → In os o → IsReady e all o
-  pub goes_on : GoesOn (IsBuilt e) all parts (sets_of os)
+  pub goes_on : GoesOn laid (IsBuilt e) all parts (sets_of os)
+
+-- what is found when a set s is taken apart: its part p, and sets os, which are those of its children
+pub record IsDivision {w : ℕ} {X : Type 0} (laid : List PlainTree → List X) (e : ℕ → ℕ → Bool) (s : NameSet) (p : X) (os : List (Open w)) : Type 0 where
+  pub falls : weights (sets_of os) < 2 * len s - 1
+  pub ready : (q : Open w) → In os q → IsReady e s q
+  pub over : IsPartOver laid (IsBuilt e) s p (sets_of os)
 
 module _ {e : ℕ → ℕ → Bool} (adj : IsAdjacency e) where
   child_fits : (s c : NameSet) (k : Kind) → HasKind e s k → IsMaximalStrong e s c → FitsBelow e c (Some k)
@@ -173,7 +196,102 @@ module _ {e : ℕ → ℕ → Bool} (adj : IsAdjacency e) where
   fits_open (One v) k below fits = tt
   fits_open (Several b) k below fits = subst (FitsBelow e b.names) (sym below.0) fits
 
-  module _ (all : NameSet) where
+  -- a name alone
+  name_falls : {w : ℕ} (s : NameSet) (os : List (Open w)) → HasSome s → os ≡ [] → weights (sets_of os) < 2 * len s - 1
+  name_falls s os some none =
+      let a : 1 ≤ len s = some_len s some.0 some.1 in
+      let b : weights (sets_of os) ≡ 0 = ap (λ ws. weights (sets_of ws)) none in
+      omega arith
+
+  -- a node over its children
+  module _ {w : ℕ} (s : NameSet) (k : Kind) (n : ℕ) (os : List (Open w)) (is : IsNode e s k n os) where
+    node_two : HasTwo s
+    node_two = two_of_kind e s k is.kind
+
+    node_falls : weights (sets_of os) < 2 * len s - 1
+    node_falls = children_fall s (sets_of os) is.children node_two
+
+    node_ready : (q : Open w) → In os q → IsReady e s q
+    node_ready q i =
+        let below : IsUnder (Some k) q × HasChain e q = is.each q (to_contains os q i) in
+        let max : IsMaximalStrong e s (open_names q) = child_maximal s (sets_of os) is.children (open_names q) (in_sets os q i) in
+        record {
+          some = max.is_strong.is_module.some;
+          two = no_vertex (Some k) q below.0 max.is_strong.is_module.some;
+          inside = max.is_strong.is_module.inside;
+          below = fits_open q k below.0 (child_fits s (open_names q) k is.kind max);
+          chain = below.1;
+        }
+
+    module _ (us : List PlainTree) (same : map names us ≡ sets_of os) (each : EachNodeBelow (IsBuilt e) (row us)) (ps : List Pair) (pairs : HasPairs e k (row us) ps) where
+      node_names : names (node k (row us) ps) ≡ s
+      node_names = all_names e us (sets_of os) same s is.children node_two
+
+      node_each : EachNode (IsBuilt e) (node k (row us) ps)
+      node_each = (node_built e us (sets_of os) same s is.children node_two k ps is.kind pairs, each)
+
+      node_count : count (row us) ≡ n
+      node_count = count_trees us ∙ ap (λ cs. length cs) same ∙ sym is.number
+
+  -- ---- parts, and the children in order
+
+  part_over : {w : ℕ} (s : NameSet) (p : PlainPart) (os : List (Open w)) → IsPartOf e s p os → IsPartOver laid_parts (IsBuilt e) s p (sets_of os)
+  part_over s (name v) os part us sets each =
+      (leaf v, sym part.0, tt, ap (λ ts. name v ∷ laid_parts ts) (sym (no_trees us (sets ∙ ap sets_of part.1))))
+  part_over s (inner k n ps) os part us sets each =
+      let pairs : HasPairs e k (row us) ps = has_pairs e us (sets_of os) sets k ps part.1 in (
+        node k (row us) ps,
+        node_names s k n os part.0 us sets each ps pairs,
+        node_each s k n os part.0 us sets each ps pairs,
+        ap (λ m. inner k m ps ∷ laid_parts us) (node_count s k n os part.0 us sets each ps pairs),
+      )
+
+  pub part_division : {w : ℕ} (s : NameSet) (p : PlainPart) (os : List (Open w)) → HasSome s → IsPartOf e s p os → IsDivision laid_parts e s p os
+  part_division s (name v) os some part = record {
+    falls = name_falls s os some part.1;
+    ready = λ q i. absurd (subst (λ ws. In ws q) part.1 i);
+    over = part_over s (name v) os part;
+  }
+  part_division s (inner k n ps) os some part = record {
+    falls = node_falls s k n os part.0;
+    ready = node_ready s k n os part.0;
+    over = part_over s (inner k n ps) os part;
+  }
+
+  -- ---- an outline, and the children from the last to the first
+
+  outline_over : {w : ℕ} (s : NameSet) (p : OutlinePart Kind) (os : List (Open w)) → IsOutlinePartOf e s p os → IsPartOver laid_outlines (IsBuilt e) s p (sets_of os)
+  outline_over s (Name v) os part us sets each =
+      (leaf v, sym part.0, tt, ap (λ ts. Name v ∷ laid_outlines ts) (sym (no_trees us (sets ∙ ap sets_of part.1))))
+  outline_over s (Node k n) os part us sets each =
+      let turned : map names (reverse us) ≡ sets_of (reverse os) = map_reverse names us ∙ ap reverse sets ∙ sym (map_reverse open_names os) in
+      let built : EachNodeBelow (IsBuilt e) (row (reverse us)) = each_reverse (IsBuilt e) us each in
+      let pairs : (ps : List Pair) × HasPairs e k (row (reverse us)) ps = (kinds_of_graphs (undirected adj)).some_pairs k (row (reverse us)) in (
+        node k (row (reverse us)) pairs.0,
+        node_names s k n (reverse os) part (reverse us) turned built pairs.0 pairs.1,
+        node_each s k n (reverse os) part (reverse us) turned built pairs.0 pairs.1,
+        append-nil (Node k (count (row (reverse us))) ∷ laid_outlines us)
+            ∙ ap (λ m. Node k m ∷ laid_outlines us) (node_count s k n (reverse os) part (reverse us) turned built pairs.0 pairs.1),
+      )
+
+  pub outline_division : {w : ℕ} (s : NameSet) (p : OutlinePart Kind) (os : List (Open w)) → HasSome s → IsOutlinePartOf e s p os → IsDivision laid_outlines e s p os
+  outline_division s (Name v) os some part = record {
+    falls = name_falls s os some part.1;
+    ready = λ q i. absurd (subst (λ ws. In ws q) part.1 i);
+    over = outline_over s (Name v) os part;
+  }
+  outline_division s (Node k n) os some part = record {
+    falls = (
+        let a : weights (sets_of (reverse os)) < 2 * len s - 1 = node_falls s k n (reverse os) part in
+        let b : weights (sets_of (reverse os)) ≡ weights (sets_of os) = ap weights (map_reverse open_names os) ∙ weights-reverse (sets_of os) in
+        omega arith);
+    ready = λ q i. node_ready s k n (reverse os) part q (in_reverse os q i);
+    over = outline_over s (Node k n) os part;
+  }
+
+  -- ---- the loop
+
+  module _ {X : Type 0} {laid : List PlainTree → List X} (is_laid : IsLaidBackward laid) (all : NameSet) where
     whole_fits : {w : ℕ} (o : Open w) → IsUnder None o → FitsOpen e o
     whole_fits (One v) top = tt
     whole_fits (Several b) top = subst (FitsBelow e b.names) (sym top.0) tt
@@ -187,82 +305,55 @@ module _ {e : ℕ → ℕ → Bool} (adj : IsAdjacency e) where
       chain = bare_chain e o bare;
     }
 
-    pub opened_begin : {w : ℕ} (o : Open w) (os : List (Open w)) (parts : List PlainPart) → HasSome all → open_names o ≡ all → IsUnder None o → HasNoChain o → os ≡ o ∷ [] → parts ≡ [] → IsOpened e all parts os
-    opened_begin o os parts some same top bare alone none = record {
-      ready = λ q i. elim (subst (λ ws. In ws q) alone i) [ inl is ↦ subst (IsReady e all) (sym is) (whole_ready o some same top bare) | inr j ↦ absurd j ];
-      goes_on = subst (λ ps. GoesOn (IsBuilt e) all ps (sets_of os)) (sym none)
-          (subst (GoesOn (IsBuilt e) all []) (ap (λ m. m ∷ []) (sym same) ∙ sym (ap sets_of alone)) (goes_begin (IsBuilt e) all));
+    pub opened_begin : {w : ℕ} (os : List (Open w)) (parts : List X) → HasSome all → (o : Open w) × (os ≡ o ∷ []) × (open_names o ≡ all) × IsUnder None o × HasNoChain o → parts ≡ [] →
+        IsOpened laid e all parts os
+    opened_begin os parts some whole none = record {
+      ready = λ q i. elim (subst (λ ws. In ws q) whole.1 i) [ inl is ↦ subst (IsReady e all) (sym is) (whole_ready whole.0 some whole.2 whole.3 whole.4) | inr j ↦ absurd j ];
+      goes_on = subst (λ ps. GoesOn laid (IsBuilt e) all ps (sets_of os)) (sym none)
+          (subst (GoesOn laid (IsBuilt e) all []) (ap (λ m. m ∷ []) (sym whole.2) ∙ sym (ap sets_of whole.1)) (goes_begin is_laid (IsBuilt e) all));
     }
 
-    module _ {w : ℕ} (parts : List PlainPart) (os waiting : List (Open w)) (o : Open w) (is : IsOpened e all parts os) (popped : os ≡ waiting ++ o ∷ []) where
+    module _ {w : ℕ} (parts : List X) (os waiting : List (Open w)) (o : Open w) (is : IsOpened laid e all parts os) (popped : os ≡ waiting ++ o ∷ []) where
       pub next_ready : IsReady e all o
       next_ready = is.ready o (subst (λ ws. In ws o) (sym popped) (in_right waiting (o ∷ []) o (inl refl)))
 
-      part_falls : (p : PlainPart) (added : List (Open w)) → IsPartOf e (open_names o) p added → weights (sets_of added) < 2 * len (open_names o) - 1
-      part_falls (name v) added part =
-          let a : 1 ≤ len (open_names o) = some_len (open_names o) next_ready.some.0 next_ready.some.1 in
-          let b : weights (sets_of added) ≡ 0 = ap (λ ws. weights (sets_of ws)) part.1 in
-          omega arith
-      part_falls (inner k n ps) added part =
-          let a : weights part.0 < 2 * len (open_names o) - 1 = children_fall (open_names o) part.0 part.1.children (two_of_kind e (open_names o) k part.1.kind) in
-          let b : weights (sets_of added) ≡ weights part.0 = ap weights part.2 in
-          omega arith
+      module _ (IsFound : X → List (Open w) → Type 0) (division : (p : X) (added : List (Open w)) → IsFound p added → IsDivision laid e (open_names o) p added)
+          (parts' : List X) (os' : List (Open w)) (turn : TakesApart IsFound parts waiting parts' os') where
+        found : IsDivision laid e (open_names o) turn.0 turn.1
+        found = division turn.0 turn.1 turn.2
 
-      part_ready : (p : PlainPart) (added : List (Open w)) → IsPartOf e (open_names o) p added → (q : Open w) → In added q → IsReady e all q
-      part_ready (name v) added part q i = absurd (subst (λ ws. In ws q) part.1 i)
-      part_ready (inner k n ps) added part q i =
-          let child : In part.0 (open_names q) = subst (λ ws. In ws (open_names q)) part.2 (in_sets added q i) in
-          let below : IsUnder (Some k) q × HasChain e q = part.3 q (to_contains added q i) in
-          let max : IsMaximalStrong e (open_names o) (open_names q) = child_maximal (open_names o) part.0 part.1.children (open_names q) child in
-          record {
-            some = max.is_strong.is_module.some;
-            two = no_vertex (Some k) q below.0 max.is_strong.is_module.some;
-            inside = λ x h. next_ready.inside x (max.is_strong.is_module.inside x h);
-            below = fits_open q k below.0 (child_fits (open_names o) (open_names q) k part.1.kind max);
-            chain = below.1;
-          }
-
-      -- the tree of o over those of its children
-      tree_over : (p : PlainPart) (added : List (Open w)) → IsPartOf e (open_names o) p added → IsPartOver (IsBuilt e) (open_names o) p (sets_of added)
-      tree_over (name v) added part us sets each =
-          (leaf v, sym part.0, tt, ap (λ ts. name v ∷ parts_backward (row ts)) (sym (no_trees us (sets ∙ ap sets_of part.1))))
-      tree_over (inner k n ps) added part us sets each =
-          let same : map names us ≡ part.0 = sets ∙ part.2 in
-          let two : HasTwo (open_names o) = two_of_kind e (open_names o) k part.1.kind in (
-            node k (row us) ps,
-            all_names e us part.0 same (open_names o) part.1.children two,
-            (node_built e us part.0 same (open_names o) part.1.children two k ps part.1.kind part.1.pairs, each),
-            ap (λ m. inner k m ps ∷ parts_backward (row us)) (count_trees us ∙ ap (λ cs. length cs) same ∙ sym part.1.number),
-          )
-
-      module _ (parts' : List PlainPart) (os' : List (Open w)) where
-        pub turn_falls : TakesApart e (open_names o) parts waiting parts' os' → weights (sets_of os') < weights (sets_of os)
-        turn_falls turn =
+        pub turn_falls : weights (sets_of os') < weights (sets_of os)
+        turn_falls =
             let a : weights (sets_of os') ≡ weights (sets_of waiting) + weights (sets_of turn.1) =
             ap weights (ap sets_of turn.4 ∙ map-append open_names waiting turn.1) ∙ weights-append (sets_of waiting) (sets_of turn.1) in
             let b : weights (sets_of os) ≡ weights (sets_of waiting) + ((2 * len (open_names o) - 1) + 0) =
             ap weights (ap sets_of popped ∙ map-append open_names waiting (o ∷ [])) ∙ weights-append (sets_of waiting) ((open_names o) ∷ []) in
-            let c : weights (sets_of turn.1) < 2 * len (open_names o) - 1 = part_falls turn.0 turn.1 turn.2 in
+            let c : weights (sets_of turn.1) < 2 * len (open_names o) - 1 = found.falls in
             omega arith
 
-        module _ (p : PlainPart) (added : List (Open w)) (part : IsPartOf e (open_names o) p added) (later : parts' ≡ parts ++ p ∷ []) (left : os' ≡ waiting ++ added) where
-          opened_by : IsOpened e all parts' os'
-          opened_by = record {
-            ready = λ q i. elim (of_append waiting added q (subst (λ ws. In ws q) left i)) [
-              | inl a ↦ is.ready q (subst (λ ws. In ws q) (sym popped) (in_left waiting (o ∷ []) q a))
-              | inr b ↦ part_ready p added part q b
-            ];
-            goes_on = subst (GoesOn (IsBuilt e) all parts') (sym (ap sets_of left ∙ map-append open_names waiting added))
-                (subst (λ ps. GoesOn (IsBuilt e) all ps (sets_of waiting ++ sets_of added)) (sym later)
-                (goes_more (IsBuilt e) all parts (sets_of waiting) (open_names o)
-                (subst (GoesOn (IsBuilt e) all parts) (ap sets_of popped ∙ map-append open_names waiting (o ∷ [])) is.goes_on)
-                p (sets_of added) (tree_over p added part)));
-          }
+        child_ready : (q : Open w) → IsReady e (open_names o) q → IsReady e all q
+        child_ready q ready = record {
+          some = ready.some;
+          two = ready.two;
+          inside = λ x h. next_ready.inside x (ready.inside x h);
+          below = ready.below;
+          chain = ready.chain;
+        }
 
-        pub opened_more : TakesApart e (open_names o) parts waiting parts' os' → IsOpened e all parts' os'
-        opened_more turn = opened_by turn.0 turn.1 turn.2 turn.3 turn.4
+        pub opened_more : IsOpened laid e all parts' os'
+        opened_more = record {
+          ready = λ q i. elim (of_append waiting turn.1 q (subst (λ ws. In ws q) turn.4 i)) [
+            | inl a ↦ is.ready q (subst (λ ws. In ws q) (sym popped) (in_left waiting (o ∷ []) q a))
+            | inr b ↦ child_ready q (found.ready q b)
+          ];
+          goes_on = subst (GoesOn laid (IsBuilt e) all parts') (sym (ap sets_of turn.4 ∙ map-append open_names waiting turn.1))
+              (subst (λ ps. GoesOn laid (IsBuilt e) all ps (sets_of waiting ++ sets_of turn.1)) (sym turn.3)
+              (goes_more is_laid (IsBuilt e) all parts (sets_of waiting) (open_names o)
+              (subst (GoesOn laid (IsBuilt e) all parts) (ap sets_of popped ∙ map-append open_names waiting (o ∷ [])) is.goes_on)
+              turn.0 (sets_of turn.1) found.over));
+        }
 
-    pub opened_end : {w : ℕ} (parts : List PlainPart) (os : List (Open w)) → IsOpened e all parts os → os ≡ [] → (t : PlainTree) × IsTreeOf e all t × (parts ≡ parts_of t)
+    pub opened_end : {w : ℕ} (parts : List X) (os : List (Open w)) → IsOpened laid e all parts os → os ≡ [] → (t : PlainTree) × IsTreeOf e all t × (parts ≡ laid (t ∷ []))
     opened_end parts os is none =
-        let b = goes_end (IsBuilt e) all parts (subst (GoesOn (IsBuilt e) all parts) (ap sets_of none) is.goes_on) in
+        let b = goes_end is_laid (IsBuilt e) all parts (subst (GoesOn laid (IsBuilt e) all parts) (ap sets_of none) is.goes_on) in
         (b.0, built_tree (kinds_of_graphs (undirected adj)) decide_test all b.0 b.1 b.2, b.3)

@@ -1,6 +1,6 @@
 -- One turn of a decomposition: a set is taken apart, which gives one part of the tree and the sets of its children.
 -- Source: top-down modular decomposition, as in Habib and Paul, A survey of the algorithmic aspects of modular decomposition.
-use Rattle.std.specs.Prelude.{◌≡◌, ℕ, Bool, List, [], ◌∷◌, ◌++◌, map, length, Contains, Option, Some, ⊤}
+use Rattle.std.specs.Prelude.{◌≡◌, ℕ, Bool, List, [], ◌∷◌, ◌++◌, map, reverse, length, Contains, Option, Some, ⊤}
 use Rattle.std.specs.FinSet.{len}
 use Rattle.md_graph.specs.Sets.{NameSet, HasSome, HasTwo, only_name}
 use Rattle.md_tree.specs.declared.Kind.{Kind}
@@ -10,6 +10,8 @@ use Rattle.md_tree.specs.StrongTrees.{HasKind}
 use Rattle.md_decompose.specs.declared.decomposition.Open.{Open}
 use Rattle.md_decompose.specs.declared.decomposition.Open.TheVariants.{One, Several}
 use Rattle.md_tree.specs.Parts.{PlainPart, name, inner}
+use Rattle.md_outline.specs.declared.outline.OutlinePart.{OutlinePart}
+use Rattle.md_outline.specs.declared.outline.OutlinePart.TheVariants.{Name, Node}
 use Rattle.md_decompose.specs.Children.{AreChildren, ListsPairs, FitsBelow}
 use Rattle.md_decompose.specs.declared.nested_modules.Nested.{Nested}
 use Rattle.md_decompose.specs.Chains.{IsChainOf, IsChainFront}
@@ -80,21 +82,24 @@ ListsForKind e Parallel cs ps = ps ≡ []
 ListsForKind e Series cs ps = ps ≡ []
 ListsForKind e Prime cs ps = ListsPairs e cs ps
 
--- the set s has the kind k, the children cs, n of them, and the pairs ps
-pub record IsNode (e : ℕ → ℕ → Bool) (s : NameSet) (k : Kind) (n : ℕ) (ps : List Pair) (cs : List NameSet) : Type 0 where
+-- the set s has the kind k and n children, and os are their sets in order, still to be taken apart
+pub record IsNode {w : ℕ} (e : ℕ → ℕ → Bool) (s : NameSet) (k : Kind) (n : ℕ) (os : List (Open w)) : Type 0 where
   pub kind : HasKind e s k
-  pub children : AreChildren e s cs
-  pub number : n ≡ length cs
-  pub pairs : ListsForKind e k cs ps
+  pub children : AreChildren e s (sets_of os)
+  pub number : n ≡ length (sets_of os)
+  pub each : (o : Open w) → Contains os o → IsUnder (Some k) o × HasChain e o
 
--- p is the part of the set s, and os are the sets of its children, still to be taken apart
+-- p is the part of the set s, and os are the sets of its children
 abbrev pub IsPartOf : {w : ℕ} → (ℕ → ℕ → Bool) → NameSet → PlainPart → List (Open w) → Type 0
 IsPartOf {w} e s (name v) os = (s ≡ only_name v) × (os ≡ [])
-IsPartOf {w} e s (inner k n ps) os =
-    (cs : List NameSet) × IsNode e s k n ps cs × (sets_of os ≡ cs) ×
-    ((o : Open w) → Contains os o → IsUnder (Some k) o × HasChain e o)
+IsPartOf {w} e s (inner k n ps) os = IsNode e s k n os × ListsForKind e k (sets_of os) ps
 
--- when s is taken apart, its part comes behind the parts so far, and the sets of its children behind the waiting ones
-abbrev pub TakesApart : {w : ℕ} → (ℕ → ℕ → Bool) → NameSet → List PlainPart → List (Open w) → List PlainPart → List (Open w) → Type 0
-TakesApart {w} e s parts waiting parts' waiting' =
-    (p : PlainPart) × (os : List (Open w)) × IsPartOf e s p os × (parts' ≡ parts ++ p ∷ []) × (waiting' ≡ waiting ++ os)
+-- p is the part of the set s in an outline, and os are the sets of its children from the last to the first
+abbrev pub IsOutlinePartOf : {w : ℕ} → (ℕ → ℕ → Bool) → NameSet → OutlinePart Kind → List (Open w) → Type 0
+IsOutlinePartOf {w} e s (Name v) os = (s ≡ only_name v) × (os ≡ [])
+IsOutlinePartOf {w} e s (Node k n) os = IsNode e s k n (reverse os)
+
+-- a part comes behind the parts so far, and the sets that are found with it behind the waiting ones
+abbrev pub TakesApart : {w : ℕ} {X : Type 0} → (X → List (Open w) → Type 0) → List X → List (Open w) → List X → List (Open w) → Type 0
+TakesApart {w} {X} IsFound parts waiting parts' waiting' =
+    (p : X) × (os : List (Open w)) × IsFound p os × (parts' ≡ parts ++ p ∷ []) × (waiting' ≡ waiting ++ os)

@@ -40,18 +40,44 @@ pub(crate) fn children<const W: usize>(
         ListsForKind (adjacent graph.now) r.0 r.1.items r.2.list.items) }
     ensures chain { IfOk result (λ _. IsChainOf (adjacent graph.now) set.now chain.new) }
 {
+    let (kind, sets) = kind_and_sets(alloc, graph, set, parent, chain)?;
+    match kind {
+        Kind::Parallel => Ok((Kind::Parallel, sets, no_pairs(alloc))),
+        Kind::Series => Ok((Kind::Series, sets, no_pairs(alloc))),
+        Kind::Prime => {
+            let edges = quotient_edges(alloc, graph, set, &sets, places)?;
+            Ok((Kind::Prime, sets, edges))
+        }
+    }
+}
+
+// The same without the pairs.
+pub(crate) fn kind_and_sets<const W: usize>(
+    alloc: Global,
+    graph: &GraphOf<W>,
+    set: &Set<W>,
+    parent: Option<Kind>,
+    chain: &mut Nested,
+) -> Result<(Kind, Vec<CompactSet<W>>), Memory>
+    requires inside { Within set.now graph.now.vertices }
+    requires two { HasTwo set.now }
+    requires below { FitsBelow (adjacent graph.now) set.now parent }
+    requires chain { IsChainOf (adjacent graph.now) set.now chain.old }
+    ensures kind { IfOk result (λ r. HasKind (adjacent graph.now) set.now r.0) }
+    ensures sets { IfOk result (λ r. AreChildren (adjacent graph.now) set.now r.1.items) }
+    ensures chain { IfOk result (λ _. IsChainOf (adjacent graph.now) set.now chain.new) }
+{
     let _vertices = graph.vertices();
     let below_parallel = matches!(parent, Some(Kind::Parallel));
     if let Some(sets) = components(alloc, graph, set, below_parallel, false)? {
-        return Ok((Kind::Parallel, sets, no_pairs(alloc)));
+        return Ok((Kind::Parallel, sets));
     }
     let below_series = matches!(parent, Some(Kind::Series));
     if let Some(sets) = components(alloc, graph, set, below_series, true)? {
-        return Ok((Kind::Series, sets, no_pairs(alloc)));
+        return Ok((Kind::Series, sets));
     }
     let sets = prime_children(alloc, graph, set, chain)?;
-    let edges = quotient_edges(alloc, graph, set, &sets, places)?;
-    Ok((Kind::Prime, sets, edges))
+    Ok((Kind::Prime, sets))
 }
 
 fn no_pairs(alloc: Global) -> QuotientEdges

@@ -1,6 +1,6 @@
 //! The tree of a graph: the sets that are still to be taken apart are taken from the end of a
 //! vector, one node each turn.
-ghost use Rattle.std.specs.Prelude.{◌≡◌, ◌<◌, ◌≤◌, ℕ, List, [], ◌∷◌, ◌++◌, length, map, IfOk, IfSome, IfNone};
+ghost use Rattle.std.specs.Prelude.{◌≡◌, ◌<◌, ◌≤◌, ℕ, List, [], ◌∷◌, ◌++◌, length, map, None, IfOk, IfSome, IfNone};
 ghost use Rattle.md_graph.specs.PlainGraph.{adjacent};
 ghost use Rattle.md_graph.specs.Sets.{Within, HasSome, HasTwo, only_name};
 ghost use Rattle.md_tree.specs.Trees.{PlainTree};
@@ -10,7 +10,7 @@ ghost use Rattle.md_tree.specs.WellFormed.{IsWellFormed};
 ghost use Rattle.md_tree.specs.Plain.{plain_option};
 ghost use Rattle.md_decompose.specs.Children.{FitsBelow};
 ghost use Rattle.md_tree.specs.Parts.{plain_part, parts_of};
-ghost use Rattle.md_decompose.specs.Turns.{open_names, IsNoVertexAlone, FitsOpen, HasChain, IsOpenOf, AreOpen, TakesApart};
+ghost use Rattle.md_decompose.specs.Turns.{open_names, IsNoVertexAlone, IsUnder, FitsOpen, HasChain, HasNoChain, IsOpenOf, AreOpen, IsPartOf, TakesApart};
 ghost use Rattle.md_decompose.specs.Chains.{IsChainOf, step_at};
 ghost use Rattle.md_decompose.specs.declared.decomposition.Open.{Open};
 
@@ -23,7 +23,7 @@ use std::alloc::Global;
 
 // What waits to be taken apart: a vertex alone, or a set of vertices.
 #[derive(Drop)]
-enum Open<const W: usize> {
+pub(crate) enum Open<const W: usize> {
     One(u32),
     Several(OpenSet<W>),
 }
@@ -31,10 +31,10 @@ enum Open<const W: usize> {
 // A set of two vertices or more whose tree is to come, the kind of the node above it, and modules
 // of the set that hold its least name.
 #[derive(Drop)]
-struct OpenSet<const W: usize> {
-    names: CompactSet<W>,
-    parent: Option<Kind>,
-    chain: Nested,
+pub(crate) struct OpenSet<const W: usize> {
+    pub(crate) names: CompactSet<W>,
+    pub(crate) parent: Option<Kind>,
+    pub(crate) chain: Nested,
 }
 
 /// The tree of the strong modules of a graph, none exactly for the graph without vertices: the leaf
@@ -84,14 +84,26 @@ fn parts<const W: usize>(
 {
     let _vertices = graph.vertices();
     let mut parts = Vec::with_capacity(alloc, names.count() as usize + 1)?;
-    let mut waiting = Vec::with_capacity(alloc, names.count() as usize + 1)?;
-    let whole = CompactSet::of(alloc, names)?;
-    waiting.push(open_set(whole, None, Nested::none(alloc)))?;
+    let mut waiting = first_open(alloc, names)?;
     let mut places = Vec::new(alloc);
     while let Some(next) = waiting.pop() {
         take_apart(alloc, graph, next, &mut parts, &mut waiting, &mut places)?;
     }
     Ok(parts)
+}
+
+// What waits at first: all the names. Room is taken for one more than there are.
+pub(crate) fn first_open<const W: usize>(
+    alloc: Global,
+    names: &Set<W>,
+) -> Result<Vec<Open<W>>, Memory>
+    ensures { IfOk result (λ waiting. (o : Open W) × (waiting.items ≡ o ∷ [])
+        × (open_names o ≡ names.now) × IsUnder None o × HasNoChain o) }
+{
+    let mut waiting = Vec::with_capacity(alloc, names.count() as usize + 1)?;
+    let whole = CompactSet::of(alloc, names)?;
+    waiting.push(open_set(whole, None, Nested::none(alloc)))?;
+    Ok(waiting)
 }
 
 // The part of what waited comes behind the parts so far, and its children behind what waits.
@@ -107,7 +119,7 @@ fn take_apart<const W: usize>(
     requires inside { Within (open_names next) graph.now.vertices }
     requires below { FitsOpen (adjacent graph.now) next }
     requires chain { HasChain (adjacent graph.now) next }
-    ensures { IfOk result (λ _. TakesApart (adjacent graph.now) (open_names next.entry)
+    ensures { IfOk result (λ _. TakesApart (IsPartOf (adjacent graph.now) (open_names next.entry))
         (map plain_part parts.old.items) waiting.old.items
         (map plain_part parts.new.items) waiting.new.items) }
 {
@@ -133,7 +145,7 @@ fn take_set_apart<const W: usize>(
     requires inside { Within set.names graph.now.vertices }
     requires below { FitsBelow (adjacent graph.now) set.names set.parent }
     requires chain { IsChainOf (adjacent graph.now) set.names set.chain }
-    ensures { IfOk result (λ _. TakesApart (adjacent graph.now) set.entry.names
+    ensures { IfOk result (λ _. TakesApart (IsPartOf (adjacent graph.now) set.entry.names)
         (map plain_part parts.old.items) waiting.old.items
         (map plain_part parts.new.items) waiting.new.items) }
 {
@@ -166,7 +178,7 @@ fn open_set<const W: usize>(names: CompactSet<W>, parent: Option<Kind>, chain: N
 
 // The children's sets in order, so that the last one is taken apart first. The first one gets the
 // modules of the chain that lie in it.
-fn push_open<const W: usize>(
+pub(crate) fn push_open<const W: usize>(
     alloc: Global,
     waiting: &mut Vec<Open<W>>,
     kind: Kind,

@@ -9,12 +9,14 @@ mod classes;
 mod decomposition;
 mod nested_modules;
 mod ordered;
+mod outline;
 mod prime;
 mod quotient;
 mod refined;
 
 pub use decomposition::{decompose, decompose_within};
 pub use ordered::in_order;
+pub use outline::graph_outline;
 pub use quotient::{heads_of, make_room, push_near};
 
 #[cfg(test)]

@@ -35,6 +35,3 @@ pub type DChildren = ChildrenOf<DKind, DPair>;
 
 /// The pairs of children of a prime node with arcs from the first to the second.
 pub type DPairs = PairsOf<DPair>;
-
-#[cfg(test)]
-mod tests;

@@ -13,6 +13,3 @@ mod walking;
 pub use copying::copy_tree;
 pub use part::decompose_part;
 pub use rebuilding::rebuild;
-
-#[cfg(test)]
-mod tests;

@@ -2,6 +2,7 @@
 #![tactic(auto)]
 
 mod arc_reader;
+mod arc_writer;
 pub mod laws;
 mod line;
 mod made;
@@ -19,6 +20,7 @@ pub use pieces::{behind_space, names, split_number};
 pub use reader::{LineFault, read_line};
 pub use writer::{
     push_edit, push_names, write_applied, write_line, write_session_head, write_tree,
+    write_tree_by_rows,
 };
 
 #[cfg(test)]

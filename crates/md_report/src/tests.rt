@@ -85,6 +85,27 @@ fn lines(rt: HostRuntime) -> Result<(), Fail> {
     Ok(())
 }
 
+// Four runs of arcs with one tail each, of names of one to four digits.
+#[test]
+fn line_of_many_arcs(rt: HostRuntime) -> Result<(), Fail> {
+    let alloc = rt.alloc();
+    let mut arcs = Vec::new(alloc);
+    let mut expected = Vec::new(alloc);
+    expected.extend_from_slice(b"yes")?;
+    for tail in [5, 42, 90, 1203] {
+        for head in 95..1010 {
+            arcs.push(Arc { tail, head })?;
+            let arc = format!(in alloc; " {tail}>{head}")?;
+            expected.extend_from_slice(arc.as_bytes())?;
+        }
+    }
+    let text = write_line(alloc, &Line::Oriented(Arcs::from_list(arcs)))?;
+    assert!(rt; text.as_slice() == expected.as_slice());
+    let again = write_line(alloc, &read_line(alloc, &expected)?)?;
+    assert!(rt; again.as_slice() == expected.as_slice());
+    Ok(())
+}
+
 #[test]
 fn lines_of_trees(rt: HostRuntime) -> Result<(), Fail> {
     let alloc = rt.alloc();

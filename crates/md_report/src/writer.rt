@@ -1,18 +1,23 @@
 //! The texts of lines.
-ghost use Rattle.std.specs.Prelude.{◌≡◌, ◌++◌, IfOk, OnOk, codes};
+ghost use Rattle.std.specs.Prelude.{◌≡◌, ◌++◌, Option, IfOk, OnOk, codes};
+ghost use Rattle.md_graph.specs.PlainGraph.{adjacent};
 ghost use Rattle.md_text.specs.Numbers.{decimal};
 ghost use Rattle.md_tree.specs.Plain.{plain_option};
+ghost use Rattle.md_tree.specs.StrongTrees.{IsTree};
+ghost use Rattle.md_tree.specs.Trees.{PlainTree};
+ghost use Rattle.md_outline.specs.Outlines.{outline_option};
 ghost use Rattle.md_report.specs.Lines as lines;
-ghost use Rattle.md_report.specs.Lines.{plain_line, reason_words, names_text, p4_text, arc_text, arcs_text, line_text, session_head};
+ghost use Rattle.md_report.specs.Lines.{plain_line, reason_words, names_text, p4_text, line_text, session_head};
 
+use crate::arc_writer::push_arcs;
 use crate::mode_words::{class_word, mode_word};
 use crate::{Line, Mode, SessionMode};
-use md_forcing::Arc;
-use md_graph::Memory;
+use md_graph::{GraphOf, Memory};
 use md_modules::P4;
+use md_outline::{OutlinePart, RowSpace, push_text_by_rows};
 use md_script::EditReason;
 use md_text::push_number;
-use md_tree::{Tree, push_text};
+use md_tree::{Kind, Tree, push_text};
 use std::alloc::Global;
 
 // Room for so many bytes is taken at once: the line of the tree of a small graph fits, and its line
@@ -57,11 +62,11 @@ pub fn write_line(alloc: Global, line: &Line) -> Result<Vec<u8>, Memory>
         }
         Line::Oriented(arcs) => {
             text.extend_from_slice(b"yes")?;
-            push_arcs(&mut text, arcs.as_slice())?;
+            push_arcs(alloc, &mut text, arcs.as_slice())?;
         }
         Line::Forced(chain) => {
             text.extend_from_slice(b"no")?;
-            push_arcs(&mut text, chain.as_slice())?;
+            push_arcs(alloc, &mut text, chain.as_slice())?;
         }
         Line::Orders(first, second) => {
             text.extend_from_slice(b"yes")?;
@@ -71,11 +76,11 @@ pub fn write_line(alloc: Global, line: &Line) -> Result<Vec<u8>, Memory>
         }
         Line::ForcedIn(chain) => {
             text.extend_from_slice(b"no g")?;
-            push_arcs(&mut text, chain.as_slice())?;
+            push_arcs(alloc, &mut text, chain.as_slice())?;
         }
         Line::ForcedInComplement(chain) => {
             text.extend_from_slice(b"no c")?;
-            push_arcs(&mut text, chain.as_slice())?;
+            push_arcs(alloc, &mut text, chain.as_slice())?;
         }
         Line::End => text.extend_from_slice(b"end")?,
     }
@@ -111,6 +116,27 @@ pub fn write_tree(alloc: Global, tree: &Option<Tree>) -> Result<Vec<u8>, Memory>
 {
     let mut text = Vec::with_capacity(alloc, SHORT)?;
     push_tree(alloc, &mut text, tree)?;
+    Ok(text)
+}
+
+/// The text of the line of the tree of strong modules of a graph, as of `Line::Tree`, without a line
+/// feed: from the outline of the tree and the rows of the graph, with no tree and no list of pairs.
+/// Errors: want of memory.
+pub fn write_tree_by_rows<const W: usize>(
+    alloc: Global,
+    parts: &[OutlinePart<Kind>],
+    graph: &GraphOf<W>,
+    space: &mut RowSpace,
+) -> Result<Vec<u8>, Memory>
+    requires { (t : Option PlainTree) × IsTree (adjacent graph.now) graph.now.vertices t
+        × (parts.now ≡ outline_option t) }
+    ensures { IfOk result (λ text. (t : Option PlainTree)
+        → IsTree (adjacent graph.now) graph.now.vertices t → parts.now ≡ outline_option t
+        → text.items ≡ line_text (lines.tree t)) }
+{
+    let mut text = Vec::with_capacity(alloc, SHORT)?;
+    text.extend_from_slice(b"t ")?;
+    push_text_by_rows(&mut text, parts, graph, space)?;
     Ok(text)
 }
 
@@ -190,25 +216,5 @@ pub fn push_names(text: &mut Vec<u8>, names: &[u32]) -> Result<(), Memory>
     for v in names {
         push_named(text, b" ", *v)?;
     }
-    Ok(())
-}
-
-// Appends a space and an arc for each arc.
-fn push_arcs(text: &mut Vec<u8>, arcs: &[Arc]) -> Result<(), Memory>
-    ensures { OnOk result (text.new.items ≡ text.old.items ++ arcs_text arcs.now) }
-{
-    for by in arcs {
-        push_arc(text, *by)?;
-    }
-    Ok(())
-}
-
-fn push_arc(text: &mut Vec<u8>, by: Arc) -> Result<(), Memory>
-    ensures { OnOk result (text.new.items ≡ text.old.items ++ (codes " " ++ arc_text by)) }
-{
-    text.push(b' ')?;
-    push_number(text, u64::from(by.tail))?;
-    text.push(b'>')?;
-    push_number(text, u64::from(by.head))?;
     Ok(())
 }

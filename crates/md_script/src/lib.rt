@@ -19,8 +19,6 @@ mod neighbours;
 mod past;
 mod reader;
 mod script;
-#[cfg(test)]
-mod tests;
 mod token;
 mod undo;
 mod word;

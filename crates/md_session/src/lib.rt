@@ -13,6 +13,3 @@ pub use cograph_items::ItemAnswer;
 pub use general::{GeneralSession, GeneralSessionOf};
 pub use local::{LocalSession, LocalSessionOf};
 pub use local_items::LocalAnswer;
-
-#[cfg(test)]
-mod tests;

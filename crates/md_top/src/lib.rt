@@ -22,6 +22,3 @@ mod undos;
 
 pub use stop::Status;
 pub use top::run;
-
-#[cfg(test)]
-mod tests;

@@ -16,12 +16,13 @@ ghost use Rattle.md_top.specs.Sinks.{sink_run, PutsLines};
 
 use crate::put::{fed, fed_text, put_report_line, put_text};
 use crate::stop::{PutStop, Stop, Verdict};
-use md_decompose::decompose;
+use md_decompose::graph_outline;
 use md_graph::{GraphOf, Memory};
 use md_input::{Format, GraphBySize, Graphs, Room};
 use md_io::Sink;
 use md_orient::{PermVerdict, Verdict as Orientation, model, orient};
-use md_report::{GraphMode, Line, write_tree};
+use md_outline::RowSpace;
+use md_report::{GraphMode, Line, write_tree_by_rows};
 use std::alloc::Global;
 
 /// Puts the report of a mode over the graphs of a file, which is read under the limit of names of
@@ -70,8 +71,9 @@ fn put_graph_lines<O: Sink>(
     ensures faults_never_fall { O.faults out.old ≤ O.faults out.new }
 {
     let mut room = Room::new(alloc)?;
+    let mut space = RowSpace::new(alloc);
     while graphs.next_into(alloc, &mut room)? {
-        put_line(alloc, mode, &room, out)?;
+        put_line(alloc, mode, &room, &mut space, out)?;
         room.clear();
     }
     Ok(())
@@ -82,6 +84,7 @@ fn put_line<O: Sink>(
     alloc: Global,
     mode: GraphMode,
     room: &Room,
+    space: &mut RowSpace,
     out: &mut O,
 ) -> Result<(), PutStop>
     ensures puts { (graphs : List PlainGraph)
@@ -89,20 +92,25 @@ fn put_line<O: Sink>(
         (sink_run O.Sink out.old out.new) }
     ensures faults_never_fall { O.faults out.old ≤ O.faults out.new }
 {
-    let text = text_of_room(alloc, mode, room)?;
+    let text = text_of_room(alloc, mode, room, space)?;
     put_text(&text, out)
 }
 
 // The text of the line that reports the graph in the room, with its line feed.
-fn text_of_room(alloc: Global, mode: GraphMode, room: &Room) -> Result<Vec<u8>, Memory>
+fn text_of_room(
+    alloc: Global,
+    mode: GraphMode,
+    room: &Room,
+    space: &mut RowSpace,
+) -> Result<Vec<u8>, Memory>
     ensures { IfOk result (λ text. (line : PlainLine) × Reports mode room.now line
         × (text.items ≡ fed_line line)) }
 {
     match room.graph() {
-        GraphBySize::Small(graph) => text_of(alloc, mode, graph),
-        GraphBySize::Medium(graph) => text_of(alloc, mode, graph),
-        GraphBySize::Broad(graph) => text_of(alloc, mode, graph),
-        GraphBySize::Large(graph) => text_of(alloc, mode, graph),
+        GraphBySize::Small(graph) => text_of(alloc, mode, graph, space),
+        GraphBySize::Medium(graph) => text_of(alloc, mode, graph, space),
+        GraphBySize::Broad(graph) => text_of(alloc, mode, graph, space),
+        GraphBySize::Large(graph) => text_of(alloc, mode, graph, space),
     }
 }
 
@@ -111,12 +119,13 @@ fn text_of<const W: usize>(
     alloc: Global,
     mode: GraphMode,
     graph: &GraphOf<W>,
+    space: &mut RowSpace,
 ) -> Result<Vec<u8>, Memory>
     ensures { IfOk result (λ text. (line : PlainLine) × Reports mode graph.now line
         × (text.items ≡ fed_line line)) }
 {
     match mode {
-        GraphMode::Tree => tree_text(alloc, graph),
+        GraphMode::Tree => tree_text(alloc, graph, space),
         GraphMode::Compare => orientation_text(alloc, graph),
         GraphMode::Shortest => orientation_text(alloc, graph),
         GraphMode::Permute => model_text(alloc, graph),
@@ -124,12 +133,16 @@ fn text_of<const W: usize>(
 }
 
 // The text of the line of the tree of a graph, with its line feed.
-fn tree_text<const W: usize>(alloc: Global, graph: &GraphOf<W>) -> Result<Vec<u8>, Memory>
+fn tree_text<const W: usize>(
+    alloc: Global,
+    graph: &GraphOf<W>,
+    space: &mut RowSpace,
+) -> Result<Vec<u8>, Memory>
     ensures { IfOk result (λ text. (line : PlainLine) × HasTreeLine lines.tree graph.now line
         × (text.items ≡ fed_line line)) }
 {
-    let tree = decompose(alloc, graph)?;
-    fed(write_tree(alloc, &tree)?)
+    let parts = graph_outline(alloc, graph)?;
+    fed(write_tree_by_rows(alloc, &parts, graph, space)?)
 }
 
 // The same of its least-edge orientation, or of a shortest forcing chain of it.

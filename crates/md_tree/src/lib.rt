@@ -120,8 +120,3 @@ impl<P: Drop> PairsOf<P> {
         &self.list[i as usize]
     }
 }
-
-#[cfg(test)]
-mod reader_tests;
-#[cfg(test)]
-mod tests;

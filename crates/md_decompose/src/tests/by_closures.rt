@@ -3,11 +3,12 @@
 //! the text of its tree, which is that of the fast one.
 use super::{is_same_set, join};
 use crate::children::children;
-use crate::decompose;
 use crate::nested_modules::Nested;
+use crate::{decompose, graph_outline};
 use md_graph::{Graph, Memory, NAMES, Names, WORDS};
 use md_modules::{CompactSet, closure_in};
-use md_tree::{Kind, QuotientEdges, text};
+use md_outline::OutlinePart;
+use md_tree::{Kind, QuotientEdges, Tree, text};
 use std::alloc::Global;
 use std::process::Abort;
 use std::test::Fail;
@@ -262,12 +263,51 @@ fn slow_text(rt: &impl Abort, alloc: Global, graph: &Graph) -> Result<String, Me
     Ok(written)
 }
 
-// Sees that both programs take a graph apart in the same way.
+// A node of a tree comes behind the parts so far, and its children wait, the first one at the end.
+fn put_node<'a>(
+    node: &'a Tree,
+    parts: &mut Vec<OutlinePart<Kind>>,
+    waiting: &mut Vec<&'a Tree>,
+) -> Result<(), Memory> {
+    match node {
+        Tree::Leaf(name) => parts.push(OutlinePart::Name(*name))?,
+        Tree::Node(kind, children, _) => {
+            let count = u32::try_from(children.list.len()).unwrap_or(0);
+            parts.push(OutlinePart::Node(*kind, count))?;
+            for child in children.list.iter().rev() {
+                waiting.push(child)?;
+            }
+        }
+    }
+    Ok(())
+}
+
+// The outline that a tree has.
+fn outline_by_tree(alloc: Global, tree: &Option<Tree>) -> Result<Vec<OutlinePart<Kind>>, Memory> {
+    let mut parts = Vec::new(alloc);
+    let mut waiting = Vec::new(alloc);
+    if let Some(root) = tree {
+        waiting.push(root)?;
+    }
+    for _ in 0..8 * NAMES {
+        let Some(node) = waiting.pop() else {
+            return Ok(parts);
+        };
+        put_node(node, &mut parts, &mut waiting)?;
+    }
+    Ok(parts)
+}
+
+// Sees that both programs take a graph apart in the same way, and that its outline is that of its
+// tree.
 pub(super) fn compare(rt: &impl Abort, alloc: Global, graph: &Graph) -> Result<(), Memory> {
     let slow = slow_text(rt, alloc, graph)?;
     let tree = decompose(alloc, graph)?;
     let fast = text(alloc, &tree)?;
     assert_eq!(rt; fast.as_slice(), slow.as_bytes());
+    let outline = graph_outline(alloc, graph)?;
+    let expected = outline_by_tree(alloc, &tree)?;
+    assert_eq!(rt; outline.as_slice(), expected.as_slice());
     Ok(())
 }
 

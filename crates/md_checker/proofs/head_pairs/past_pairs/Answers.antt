@@ -1,4 +1,4 @@
-use Rattle.md_checker.proofs.HeadPairs.{ascend_two}
+use Rattle.md_outline.proofs.HeadPairs.{ascend_two}
 use Rattle.md_checker.proofs.head_pairs.past_pairs.Goals as goal
 
 pub spell_places-requires-clause-ascending : goal.spell_places-requires-clause-ascending

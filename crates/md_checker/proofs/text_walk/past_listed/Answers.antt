@@ -1,7 +1,7 @@
 use Rattle.std.proofs.Common.{true, cond, [], length, sym, ◌∙◌, subst}
 use Rattle.md_tree.specs.Held.{MayListIf}
 use Rattle.md_tree.proofs.Stacking.{if_ok}
-use Rattle.md_checker.specs.HeadPairs.{head_pairs}
+use Rattle.md_outline.specs.HeadPairs.{head_pairs}
 use Rattle.md_checker.specs.TextViews.{StandForChildren}
 use Rattle.md_checker.proofs.HeadPairs.{heads_listed, if_some}
 use Rattle.md_checker.proofs.text_walk.past_listed.Goals as goal

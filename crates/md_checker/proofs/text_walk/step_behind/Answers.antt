@@ -7,7 +7,7 @@ use Rattle.md_checker.proofs.text_walk.step_behind.Goals as goal
 pub returns-in-Ok : goal.returns-in-Ok
 returns-in-Ok g c bytes r =
     let walk = c.args.walk.now in (
-      read_comma (is_spelling g.met.K.Lettered.laws g.met.P.Paired.laws) (g.G.TextGraph.view c.args.graph.now) bytes c.args.text.now c.in-Ok.tail.now walk.sets.items walk.least.items walk.roots.items walk.opens.items walk.seen r
+      read_comma (is_spelling g.met.K.Lettered.laws g.met.P.Paired.laws) (g.G.TextGraph.view c.args.graph.now) bytes c.args.text.now c.in-Ok.tail.now walk.least.items walk.roots.items walk.opens.items walk.seen walk.live r
           (let o = walk.opens.ok.0 in grind (arith, c.is_empty.ensures, c.if-is_empty.false, o)) c.in-Ok.ensures.on,
       shorter_tail 44 c.args.text.now c.in-Ok.tail.now c.in-Ok.ensures.on,
     )
@@ -15,7 +15,7 @@ returns-in-Ok g c bytes r =
 pub end_node-requires : goal.end_node-requires
 end_node-requires g c =
     let walk = c.args.walk.now in
-    (search rules, (c.requires.0, read_inside (is_spelling g.met.K.Lettered.laws g.met.P.Paired.laws) (g.G.TextGraph.view c.args.graph.now) c.requires.0 c.args.text.now walk.sets.items walk.least.items walk.roots.items walk.opens.items c.pop.new.self.items walk.seen c.in-Some.inner c.requires.1 c.in-Some.ensures.items))
+    (search rules, (c.requires.0, read_inside (is_spelling g.met.K.Lettered.laws g.met.P.Paired.laws) (g.G.TextGraph.view c.args.graph.now) c.requires.0 c.args.text.now walk.least.items walk.roots.items walk.opens.items c.pop.new.self.items walk.seen walk.live c.in-Some.inner c.requires.1 c.in-Some.ensures.items))
 
 pub returns-in-Some-2 : goal.returns-in-Some-2
 returns-in-Some-2 g c bytes r =
@@ -23,4 +23,4 @@ returns-in-Some-2 g c bytes r =
     let is = c.in-Some-2.is in
     let p = c.in_ok-tail.ensures in
     let q = rw is at p in
-    q bytes (read_inside (is_spelling g.met.K.Lettered.laws g.met.P.Paired.laws) (g.G.TextGraph.view c.args.graph.now) bytes c.args.text.now walk.sets.items walk.least.items walk.roots.items walk.opens.items c.pop.new.self.items walk.seen c.in-Some.inner r c.in-Some.ensures.items)
+    q bytes (read_inside (is_spelling g.met.K.Lettered.laws g.met.P.Paired.laws) (g.G.TextGraph.view c.args.graph.now) bytes c.args.text.now walk.least.items walk.roots.items walk.opens.items c.pop.new.self.items walk.seen walk.live c.in-Some.inner r c.in-Some.ensures.items)

@@ -9,7 +9,7 @@ pub returns : goal.returns
 returns g c bytes text split r =
     let walk = c.args.walk.now in
     let vertex = ap (λ s. contains s c.args.name) (sym c.vertices-vertices.ensures.set) ∙ sym c.has.ensures.value ∙ c.if-not-has.false in (
-      read_name (is_spelling g.met.K.Lettered.laws g.met.P.Paired.laws) (g.G.TextGraph.view c.args.graph.now) bytes text c.args.tail.now walk.sets.items c.push.new.self.items walk.least.items c.push-2.new.self.items walk.roots.items c.push-3.new.self.items
-          walk.opens.items walk.seen c.insert.new.self c.one.result c.args.name r split vertex (c.vertices-vertices.ensures.view.names c.args.name vertex) (sym c.has-2.ensures.value ∙ c.if-has.false) c.one.ensures.value c.in_ok-push.ensures.items c.in_ok-push-2.ensures.items c.in_ok-push-3.ensures.items c.insert.ensures.changed,
+      read_name (is_spelling g.met.K.Lettered.laws g.met.P.Paired.laws) (g.G.TextGraph.view c.args.graph.now) bytes text c.args.tail.now walk.least.items c.push.new.self.items walk.roots.items c.push-2.new.self.items
+          walk.opens.items walk.seen c.insert.new.self walk.live c.args.name r split vertex (c.vertices-vertices.ensures.view.names c.args.name vertex) (sym c.has-2.ensures.value ∙ c.if-has.false) c.in_ok-push.ensures.items c.in_ok-push-2.ensures.items c.insert.ensures.changed,
       number_shorter text c.args.tail.now c.args.name split,
     )

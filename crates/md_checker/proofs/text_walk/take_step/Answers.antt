@@ -28,7 +28,7 @@ returns-in-Some-2 g c bytes r =
     let p = c.in_ok-inside.ensures in
     let q = rw is at p in
     let due = subst (λ b. IsRead g.K.Lettered.rules g.P.Paired.rules (g.G.TextGraph.view c.args.graph.now) bytes c.args.text.now b c.args.walk.now) c.if-behind.false r in (
-      read_letter (is_spelling g.met.K.Lettered.laws g.met.P.Paired.laws) (g.G.TextGraph.view c.args.graph.now) bytes c.args.text.now c.in-Some-2.inside.now walk.sets.items walk.least.items walk.roots.items walk.opens.items c.begin_node.new.opens.items walk.seen _ c.len.result due
+      read_letter (is_spelling g.met.K.Lettered.laws g.met.P.Paired.laws) (g.G.TextGraph.view c.args.graph.now) bytes c.args.text.now c.in-Some-2.inside.now walk.least.items walk.roots.items walk.opens.items c.begin_node.new.opens.items walk.seen walk.live _ c.len.result due
           q.0 (c.len.ensures ∙ walk.least.ok.0) q.1,
       (let a = shorter_tail _ c.args.text.now (40 ∷ c.in-Some-2.inside.now) q.0 in let b : length (40 ∷ c.in-Some-2.inside.now) ≡ suc (length c.in-Some-2.inside.now) = refl in omega arith),
     )

@@ -1,0 +1,8 @@
+use Rattle.md_checker.proofs.FitRows.{neighbours_agree}
+use Rattle.md_checker.proofs.text_fit.GraphOfTextGraphKindPair.agree_on.Goals as goal
+
+pub returns : goal.returns
+returns g c = record {
+  agree = λ yes.
+      (neighbours_agree c.row.ensures.graph c.args.v c.args.w c.args.names.now c.row.result.now c.row-2.result.now c.row.ensures.set c.row-2.ensures.set).0 (c.agrees_on.ensures.exactly.0 yes);
+}

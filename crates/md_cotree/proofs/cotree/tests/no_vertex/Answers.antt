@@ -1,4 +1,0 @@
-use Rattle.md_cotree.proofs.cotree.tests.no_vertex.Goals as goal
-
-pub node_count-requires : goal.node_count-requires
-node_count-requires g c = let denotes = c.in_ok-cotree.ensures in (denotes.0, denotes.1)

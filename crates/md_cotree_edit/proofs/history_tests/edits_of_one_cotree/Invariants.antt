@@ -1,5 +1,0 @@
-use Rattle.md_cotree.specs.Cotrees.{IsSoundCotree}
-use Rattle.md_cotree_edit.proofs.history_tests.edits_of_one_cotree.Given as goal
-
-abbrev pub invariant-loop-step : goal.invariant-loop-step
-invariant-loop-step g l = IsSoundCotree l.cotree

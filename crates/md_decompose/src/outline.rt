@@ -1,0 +1,132 @@
+//! The outline of the tree of a graph: a node each turn, and the first of its children next. No
+//! pairs of children are looked for.
+ghost use Rattle.std.specs.Prelude.{◌≡◌, ◌<◌, ◌≤◌, ℕ, List, ◌++◌, reverse, length, Option, IfOk};
+ghost use Rattle.md_graph.specs.PlainGraph.{adjacent};
+ghost use Rattle.md_graph.specs.Sets.{Within, HasSome, HasTwo};
+ghost use Rattle.md_tree.specs.Trees.{PlainTree};
+ghost use Rattle.md_tree.specs.StrongTrees.{IsTreeOf, IsTree};
+ghost use Rattle.md_outline.specs.Outlines.{outline_of, outline_option};
+ghost use Rattle.md_decompose.specs.Children.{FitsBelow};
+ghost use Rattle.md_decompose.specs.Turns.{open_names, IsNoVertexAlone, FitsOpen, HasChain, AreOpen, IsOutlinePartOf, TakesApart};
+ghost use Rattle.md_decompose.specs.Chains.{IsChainOf, step_at};
+ghost use Rattle.md_decompose.specs.declared.decomposition.Open.{Open};
+
+use crate::children::kind_and_sets;
+use crate::decomposition::{Open, OpenSet, first_open, push_open};
+use crate::nested_modules::Nested;
+use md_graph::{GraphOf, Memory, Set};
+use md_modules::CompactSet;
+use md_outline::OutlinePart;
+use md_tree::Kind;
+use std::alloc::Global;
+
+/// The outline of the tree of strong modules of a graph, without parts exactly for the graph
+/// without vertices: each node before those below it, and children in ascending order of their
+/// least names. Errors: want of memory.
+pub fn graph_outline<const W: usize>(
+    alloc: Global,
+    graph: &GraphOf<W>,
+) -> Result<Vec<OutlinePart<Kind>>, Memory>
+    ensures outline { IfOk result (λ parts. (t : Option PlainTree)
+        × IsTree (adjacent graph.now) graph.now.vertices t × (parts.items ≡ outline_option t)) }
+{
+    let names = graph.vertices();
+    let Some(_) = names.first_from(0) else {
+        return Ok(Vec::new(alloc));
+    };
+    outline_parts(alloc, graph, names)
+}
+
+// The outline of the tree of the graph on the names, of which there is one. A prime graph has one
+// node more than vertices; room for so many is taken at once.
+fn outline_parts<const W: usize>(
+    alloc: Global,
+    graph: &GraphOf<W>,
+    names: &Set<W>,
+) -> Result<Vec<OutlinePart<Kind>>, Memory>
+    requires some { HasSome names.now }
+    requires inside { Within names.now graph.now.vertices }
+    ensures { IfOk result (λ parts. (t : PlainTree)
+        × IsTreeOf (adjacent graph.now) names.now t × (parts.items ≡ outline_of t)) }
+{
+    let _vertices = graph.vertices();
+    let mut parts = Vec::with_capacity(alloc, names.count() as usize + 1)?;
+    let mut waiting = first_open(alloc, names)?;
+    while let Some(next) = waiting.pop() {
+        outline_apart(alloc, graph, next, &mut parts, &mut waiting)?;
+    }
+    Ok(parts)
+}
+
+// The part of what waited comes behind the parts so far, and its children behind what waits.
+fn outline_apart<const W: usize>(
+    alloc: Global,
+    graph: &GraphOf<W>,
+    next: Open<W>,
+    parts: &mut Vec<OutlinePart<Kind>>,
+    waiting: &mut Vec<Open<W>>,
+) -> Result<(), Memory>
+    requires two { IsNoVertexAlone next }
+    requires inside { Within (open_names next) graph.now.vertices }
+    requires below { FitsOpen (adjacent graph.now) next }
+    requires chain { HasChain (adjacent graph.now) next }
+    ensures { IfOk result (λ _. TakesApart
+        (IsOutlinePartOf (adjacent graph.now) (open_names next.entry))
+        parts.old.items waiting.old.items parts.new.items waiting.new.items) }
+{
+    match next {
+        Open::One(name) => {
+            parts.push(OutlinePart::Name(name))?;
+            Ok(())
+        }
+        Open::Several(set) => outline_set_apart(alloc, graph, set, parts, waiting),
+    }
+}
+
+// The same of a set.
+fn outline_set_apart<const W: usize>(
+    alloc: Global,
+    graph: &GraphOf<W>,
+    set: OpenSet<W>,
+    parts: &mut Vec<OutlinePart<Kind>>,
+    waiting: &mut Vec<Open<W>>,
+) -> Result<(), Memory>
+    requires two { HasTwo set.names }
+    requires inside { Within set.names graph.now.vertices }
+    requires below { FitsBelow (adjacent graph.now) set.names set.parent }
+    requires chain { IsChainOf (adjacent graph.now) set.names set.chain }
+    ensures { IfOk result (λ _. TakesApart (IsOutlinePartOf (adjacent graph.now) set.entry.names)
+        parts.old.items waiting.old.items parts.new.items waiting.new.items) }
+{
+    let _vertices = graph.vertices();
+    let OpenSet {
+        names,
+        parent,
+        mut chain,
+    } = set;
+    let mut room = None;
+    let set = names.set_in(&mut room);
+    let (kind, sets) = kind_and_sets(alloc, graph, set, parent, &mut chain)?;
+    parts.push(OutlinePart::Node(kind, sets.len() as u32))?;
+    push_backward(alloc, waiting, kind, sets, &chain)
+}
+
+// The children's sets from the last to the first, so that the first one is taken apart next.
+fn push_backward<const W: usize>(
+    alloc: Global,
+    waiting: &mut Vec<Open<W>>,
+    kind: Kind,
+    sets: Vec<CompactSet<W>>,
+    chain: &Nested,
+) -> Result<(), Memory>
+    requires { (k : ℕ) → k < length chain.now.steps.items
+        → (step_at chain.now.steps.items k).to ≤ length chain.now.taken.items }
+    ensures { IfOk result (λ _. (os : List (Open W))
+        × (waiting.new.items ≡ waiting.old.items ++ reverse os)
+        × AreOpen kind sets.entry.items chain.now os) }
+{
+    let others = waiting.len();
+    push_open(alloc, waiting, kind, sets, chain)?;
+    waiting[others..].reverse();
+    Ok(())
+}

@@ -1,4 +1,0 @@
-use Rattle.md_local.proofs.tests.parts_and_copies.Given as goal
-
-abbrev pub ghosts-part_is : goal.ghosts-part_is
-ghosts-part_is g a = record { name = a.blank.name; parts = a.blank.parts }

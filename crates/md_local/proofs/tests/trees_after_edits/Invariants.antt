@@ -1,4 +1,0 @@
-use Rattle.md_local.proofs.tests.trees_after_edits.Given as goal
-
-abbrev pub ghosts-edits_of_edges : goal.ghosts-edits_of_edges
-ghosts-edits_of_edges g a = record { name = a.blank.name; parts = a.blank.parts }

@@ -1,0 +1,3 @@
+pub mod HeadPairs
+pub mod NodeRows
+pub mod Writing

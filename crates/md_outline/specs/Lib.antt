@@ -1,0 +1,4 @@
+pub mod Outlines
+pub mod HeadPairs
+pub mod NodeRows
+pub mod BegunNodes

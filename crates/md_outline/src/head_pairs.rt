@@ -1,0 +1,205 @@
+//! Writes the pairs of a prime node, read off the rows of a graph. No list of pairs is made.
+ghost use Rattle.std.specs.Prelude.{◌≡◌, ◌+◌, ◌*◌, ◌<◌, ◌≤◌, ◌^◌, ℕ, Bool, List, [], ◌∷◌, ◌++◌, length, get_or, IfOk, OnOk};
+ghost use Rattle.std.specs.List.{All};
+ghost use Rattle.std.specs.FinSet as set;
+ghost use Rattle.md_graph.specs.PlainGraph.{adjacent};
+ghost use Rattle.md_text.specs.Pieces.{piece_text, text_at, texts_at};
+ghost use Rattle.md_tree.specs.declared.Pair.{Pair};
+ghost use Rattle.md_tree.specs.Spellings.{graph_pairs};
+ghost use Rattle.md_tree.specs.TreeTexts.{pairs_text};
+ghost use Rattle.md_outline.specs.HeadPairs.{near_heads, near_pairs, head_pairs, SpellPositions};
+ghost use Rattle.md_outline.specs.NodeRows.{is_edge_up, AreHeadsOf};
+
+use md_graph::{GraphOf, Members, Memory, Set};
+use md_text::{CHUNK_SIZE, Chunk, Piece, digits_piece, number_piece, piece_behind};
+use md_tree::{Pair, Paired};
+use std::alloc::Global;
+
+// So many bytes have room for a pair, which is two pieces.
+const PAIR_ROOM: usize = 16;
+
+// What the pairs of a node need beside the text: at the place of each head its position, a chunk
+// in which pairs are gathered, and the mark before the next pair.
+#[derive(Drop)]
+pub(crate) struct PairSpace {
+    places: Vec<Piece>,
+    chunk: Chunk,
+    mark: u8,
+}
+
+impl PairSpace {
+    pub(crate) fn new(alloc: Global) -> PairSpace {
+        PairSpace {
+            places: Vec::new(alloc),
+            chunk: Chunk::new(),
+            mark: b';',
+        }
+    }
+}
+
+// The semicolon and the pairs, where there are some, of a prime node with these heads of its
+// children.
+pub(crate) fn push_head_pairs<const W: usize>(
+    text: &mut Vec<u8>,
+    graph: &GraphOf<W>,
+    heads: &[u32],
+    space: &mut PairSpace,
+) -> Result<(), Memory>
+    requires { AreHeadsOf graph.now.vertices heads.now }
+    ensures { OnOk result (text.new.items ≡ text.old.items
+        ++ pairs_text 59 (head_pairs graph_pairs (is_edge_up (adjacent graph.now)) heads.now)) }
+{
+    let _vertices = graph.vertices();
+    spell_places(&mut space.places, heads)?;
+    let all = Set::from_list(heads);
+    let room = pair_room(&space.places, heads);
+    text.reserve(count_pairs(graph, heads, &all).saturating_mul(room))?;
+    gather_pairs(text, graph, heads, &all, space)?;
+    space.chunk.flush(text)?;
+    Ok(())
+}
+
+// Puts down the position of each head at its place.
+fn spell_places(places: &mut Vec<Piece>, heads: &[u32]) -> Result<(), Memory>
+    requires some { 0 < length heads.now }
+    requires ascending { (i j : ℕ) → i < j → j < length heads.now
+        → get_or heads.now i 0 < get_or heads.now j 0 }
+    requires few { length heads.now ≤ 10 ^ 5 }
+    ensures { IfOk result (λ _. SpellPositions places.new.items 0 heads.now) }
+{
+    make_places(places, heads[heads.len() - 1])?;
+    for (position, head) in heads.iter().enumerate() {
+        places[*head as usize] = digits_piece(position as u32);
+    }
+    Ok(())
+}
+
+// Makes places, so that there is one for the name.
+fn make_places(places: &mut Vec<Piece>, last: u32) -> Result<(), Memory>
+    ensures { IfOk result (λ _. last < length places.new.items) }
+{
+    let count = last as usize + 1;
+    if places.len() < count {
+        places.resize(count, digits_piece(0))?;
+    }
+    Ok(())
+}
+
+// How many bytes a pair of these heads has at most, with the mark before it.
+fn pair_room(places: &[Piece], heads: &[u32]) -> usize {
+    let Some(last) = heads.last() else {
+        return 0;
+    };
+    match places.get(*last as usize) {
+        Some(piece) => 2 * piece.used + 2,
+        None => PAIR_ROOM,
+    }
+}
+
+// How many pairs the heads have.
+fn count_pairs<const W: usize>(graph: &GraphOf<W>, heads: &[u32], all: &Set<W>) -> usize
+    requires { (i : ℕ) → i < length heads.now → get_or heads.now i 0 < 64 * W }
+{
+    let mut ends: usize = 0;
+    for head in heads {
+        ends = ends.saturating_add(graph.row(*head).and(all).count() as usize);
+    }
+    ends / 2
+}
+
+// Gathers the pairs of the heads, of which the last ones stay in the chunk.
+fn gather_pairs<const W: usize>(
+    text: &mut Vec<u8>,
+    graph: &GraphOf<W>,
+    heads: &[u32],
+    all: &Set<W>,
+    space: &mut PairSpace,
+) -> Result<(), Memory>
+    requires heads { AreHeadsOf graph.now.vertices heads.now }
+    requires few { length heads.now ≤ 10 ^ 5 }
+    requires all { all.now ≡ set.from_list heads.now }
+    requires places { SpellPositions space.old.places.items 0 heads.now }
+    ensures { OnOk result (text.new.items ++ space.new.chunk ≡ text.old.items
+        ++ pairs_text 59 (head_pairs graph_pairs (is_edge_up (adjacent graph.now)) heads.now)) }
+{
+    let _vertices = graph.vertices();
+    space.chunk.clear();
+    space.mark = b';';
+    for (position, head) in heads.iter().enumerate() {
+        let near = graph.row(*head).and(all);
+        put_row(text, near.members_from(*head + 1), position as u32, space)?;
+    }
+    Ok(())
+}
+
+// Gathers the pairs of the position `low` with those of the near heads.
+fn put_row(
+    text: &mut Vec<u8>,
+    near: Members<'_>,
+    low: u32,
+    space: &mut PairSpace,
+) -> Result<(), Memory>
+    requires low { low < 10 ^ 5 }
+    requires there { All (λ v. v < length space.old.places.items) near }
+    ensures written { OnOk result ((e : ℕ → ℕ → Bool) (v j : ℕ) (ws : List ℕ) (more : List Pair)
+        → SpellPositions space.old.places.items j ws → near.entry ≡ near_heads e v ws
+        → (text.new.items ++ space.new.chunk) ++ pairs_text space.new.mark more
+        ≡ (text.old.items ++ space.old.chunk)
+        ++ pairs_text space.old.mark (near_pairs graph_pairs e v low j ws ++ more)) }
+    ensures places { space.new.places.items ≡ space.old.places.items }
+{
+    let mut others = near;
+    let Some(first) = others.next() else {
+        return Ok(());
+    };
+    let digits = number_piece(low, Pair::between());
+    let start = piece_behind(space.mark, digits);
+    space.mark = b',';
+    put_pair(text, start, first, &space.places, &mut space.chunk)?;
+    put_each(
+        text,
+        piece_behind(b',', digits),
+        others,
+        &space.places,
+        &mut space.chunk,
+    )
+}
+
+// Gathers, for each of the names, the piece `start` and the one at its index. Never inlined, so
+// that its loop has the registers to itself.
+#[inline(never)]
+fn put_each(
+    text: &mut Vec<u8>,
+    start: Piece,
+    others: Members<'_>,
+    pieces: &[Piece],
+    chunk: &mut Chunk,
+) -> Result<(), Memory>
+    requires { All (λ v. v < length pieces.now) others }
+    ensures { OnOk result (text.new.items ++ chunk.new ≡ (text.old.items ++ chunk.old)
+        ++ texts_at pieces.now (piece_text start) others.entry) }
+{
+    for other in others {
+        put_pair(text, start, other, pieces, chunk)?;
+    }
+    Ok(())
+}
+
+// Gathers the piece `start` and the one at the index of a name; a chunk without room for them goes
+// to the text first.
+#[inline(always)]
+fn put_pair(
+    text: &mut Vec<u8>,
+    start: Piece,
+    name: u32,
+    pieces: &[Piece],
+    chunk: &mut Chunk,
+) -> Result<(), Memory>
+    requires { name < length pieces.now }
+    ensures { OnOk result (text.new.items ++ chunk.new ≡ (text.old.items ++ chunk.old)
+        ++ (piece_text start ++ text_at pieces.now name)) }
+{
+    chunk.make_room(PAIR_ROOM, text)?;
+    chunk.put_both(start, pieces[name as usize]);
+    Ok(())
+}

@@ -1,0 +1,12 @@
+//! Tests of scripts and sessions, by the public calls of their crates. They stand in a crate of
+//! their own, since a crate with tests is proved a second time with them.
+#![tactic(auto)]
+
+#[cfg(test)]
+mod class_sessions;
+#[cfg(test)]
+mod cograph_paths;
+#[cfg(test)]
+mod scripts;
+#[cfg(test)]
+mod sessions;
