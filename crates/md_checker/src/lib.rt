@@ -35,6 +35,3 @@ pub use line_judge::{LineJudge, judge};
 pub use text_graph::TextGraph;
 pub use text_walk::is_text_by_rows;
 pub use tree_fit::{are_alone, fits};
-
-#[cfg(test)]
-mod tests;

@@ -13,6 +13,3 @@ mod lone_modules;
 
 pub use directed_check::check_directed;
 pub use directed_fit::fits_directed;
-
-#[cfg(test)]
-mod tests;

@@ -18,6 +18,3 @@ pub use decomposition::{decompose, decompose_within};
 pub use ordered::in_order;
 pub use outline::graph_outline;
 pub use quotient::{heads_of, make_room, push_near};
-
-#[cfg(test)]
-mod tests;

@@ -22,6 +22,3 @@ pub use writer::{
     push_edit, push_names, write_applied, write_line, write_session_head, write_tree,
     write_tree_by_rows,
 };
-
-#[cfg(test)]
-mod tests;

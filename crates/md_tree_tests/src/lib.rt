@@ -5,6 +5,8 @@
 #[cfg(test)]
 mod cotrees;
 #[cfg(test)]
+mod decompositions;
+#[cfg(test)]
 mod directed_texts;
 #[cfg(test)]
 mod directed_trees;

@@ -1,16 +1,11 @@
 //! Reports and their answers.
-use super::*;
-use md_input::{Format, InputStop};
+use md_checker::{CheckAnswer, Checker, check_graphs, check_session};
+use md_input::Format;
 use md_report::{GraphMode, Line, Mode, SessionMode};
 use md_tree::read_tree;
 use std::alloc::Global;
 use std::process::Abort;
 use std::test::Fail;
-
-pub(crate) const PATH: [(u32, u32); 3] = [(0, 1), (1, 2), (2, 3)];
-
-// The path on four names, with a twin of its first end.
-pub(crate) const TWINS: [(u32, u32); 4] = [(0, 1), (1, 2), (1, 4), (2, 3)];
 
 // The answer of a report over the graphs of a file of lines.
 fn answer_of(
@@ -248,7 +243,12 @@ fn reports_in_mode_quiet(rt: HostRuntime) {
     let path: (&[u8], &[u8]) = (b"Ch\n", b"+e 0 2\n");
     let path_alone: (&[u8], &[u8]) = (b"Ch\n", b"");
     let grown: (&[u8], &[u8]) = (b"C?\n", b"+e 0 1\n+e 1 2\n+e 2 3\n+e 0 1\n");
-    let cases: [((&[u8], &[u8]), &[u8], CheckAnswer); 18] = [
+    // The last four graphs of the table: two are cographs.
+    let cycle: (&[u8], &[u8]) = (b"Cl\n", b"+v 0\n");
+    let nested: (&[u8], &[u8]) = (b"Etg?\n", b"+v 0\n");
+    let path_of_four: (&[u8], &[u8]) = (b"DHC\n", b"+v 0\n");
+    let cycle_of_five: (&[u8], &[u8]) = (b"Dhc\n", b"+v 0\n");
+    let cases: [((&[u8], &[u8]), &[u8], CheckAnswer); 23] = [
         (alone, b"mdt quiet\nt 0\nend\n", accepted),
         (alone, b"mdt quiet\nt 1\nend\n", CheckAnswer::Rejected(2)),
         (alone, b"mdt quiet\nt 0\n", CheckAnswer::Rejected(3)),
@@ -317,6 +317,31 @@ fn reports_in_mode_quiet(rt: HostRuntime) {
         (
             grown,
             b"mdt quiet\np4 0 1 2 3\nend\n",
+            CheckAnswer::Rejected(2),
+        ),
+        (
+            (b"?\n", b"+e 0 1\n"),
+            b"mdt quiet\nno vertex 0\nt empty\nend\n",
+            accepted,
+        ),
+        (
+            cycle,
+            b"mdt quiet\nno taken 0\nt S(P(0,2),P(1,3))\nend\n",
+            accepted,
+        ),
+        (
+            nested,
+            b"mdt quiet\nno taken 0\nt P(S(0,P(1,S(2,P(3,4)))),5)\nend\n",
+            accepted,
+        ),
+        (
+            path_of_four,
+            b"mdt quiet\nno taken 0\n",
+            CheckAnswer::Rejected(2),
+        ),
+        (
+            cycle_of_five,
+            b"mdt quiet\nno taken 0\n",
             CheckAnswer::Rejected(2),
         ),
     ];

@@ -3,7 +3,7 @@
 mod by_closures;
 mod nested;
 
-use super::*;
+use md_decompose::{decompose, decompose_within};
 use md_graph::{Graph, Memory, NAMES, Names};
 use md_tree::{graph_of, text};
 use std::alloc::{AllocError, Global};
@@ -93,6 +93,9 @@ fn prime_graphs(rt: HostRuntime) -> Result<(), Fail> {
     let bull = [(0, 1), (1, 2), (2, 3), (1, 4), (2, 4)];
     let text = b"R(0,1,2,3,4;0-1,1-2,1-4,2-3,2-4)";
     check_made(&rt, a, &[0, 1, 2, 3, 4], &bull, text)?;
+    let two_twins = [(3, 0), (4, 0), (0, 1), (0, 5), (1, 2), (5, 2)];
+    let text = b"R(0,P(1,5),2,P(3,4);0-1,0-3,1-2)";
+    check_made(&rt, a, &[0, 1, 2, 3, 4, 5], &two_twins, text)?;
     Ok(())
 }
 

@@ -1,14 +1,14 @@
-//! The children of prime sets by the closures of pairs, a slow program, beside the fast one: on all
-//! graphs of up to five vertices, and on larger ones of many kinds. The slow program also writes
-//! the text of its tree, which is that of the fast one.
+//! Trees by components, components of the complement and closures of pairs, a slow program that
+//! writes their texts, beside the fast one: on all graphs of up to five vertices, and on larger ones
+//! of many kinds.
+ghost use Rattle.md_graph.specs.Sets.{Within};
+
 use super::{is_same_set, join};
-use crate::children::children;
-use crate::nested_modules::Nested;
-use crate::{decompose, graph_outline};
-use md_graph::{Graph, Memory, NAMES, Names, WORDS};
-use md_modules::{CompactSet, closure_in};
+use md_decompose::{decompose, graph_outline};
+use md_graph::{Graph, Memory, NAMES, Names};
+use md_modules::{closure_in, co_component, component};
 use md_outline::OutlinePart;
-use md_tree::{Kind, QuotientEdges, Tree, text};
+use md_tree::{Kind, Tree, text};
 use std::alloc::Global;
 use std::process::Abort;
 use std::test::Fail;
@@ -99,9 +99,16 @@ fn by_line(rt: &impl Abort, alloc: Global, line: &[u8]) -> Result<Graph, Memory>
     Ok(graph)
 }
 
+// The vertices in a set.
+fn vertices_in(graph: &Graph, set: &Names) -> Names
+    ensures { Within result graph.now.vertices }
+{
+    set.and(graph.vertices())
+}
+
 // Takes in the least module of `u` and `v` in the graph on `set`, unless it is the whole set.
 fn take_closure(rt: &impl Abort, graph: &Graph, set: &Names, u: u32, v: u32, block: &mut Names) {
-    let within = set.and(graph.vertices());
+    let within = vertices_in(graph, set);
     assert!(rt; within.has(u));
     assert!(rt; within.has(v));
     let mut closure = Names::none();
@@ -112,9 +119,9 @@ fn take_closure(rt: &impl Abort, graph: &Graph, set: &Names, u: u32, v: u32, blo
 }
 
 // The maximal proper module of `u` in a prime set.
-fn block(rt: &impl Abort, graph: &Graph, set: &Names, rest: &Names, u: u32) -> Names {
+fn block(rt: &impl Abort, graph: &Graph, set: &Names, u: u32) -> Names {
     let mut block = Names::none();
-    for v in rest.members() {
+    for v in set.members() {
         if !block.has(v) {
             take_closure(rt, graph, set, u, v, &mut block);
         }
@@ -122,12 +129,37 @@ fn block(rt: &impl Abort, graph: &Graph, set: &Names, rest: &Names, u: u32) -> N
     block
 }
 
-// The maximal proper modules of a prime set, in order.
-fn slow_children(
+// The child with `u` of a set that is a node of the kind.
+fn child(rt: &impl Abort, graph: &Graph, set: &Names, kind: Kind, u: u32) -> Names {
+    let within = vertices_in(graph, set);
+    assert!(rt; within.has(u));
+    let mut child = Names::none();
+    match kind {
+        Kind::Parallel => component(graph, &within, u, &mut child),
+        Kind::Series => co_component(graph, &within, u, &mut child),
+        Kind::Prime => child = block(rt, graph, set, u),
+    }
+    child
+}
+
+// The kind of a set with the name `u` and another one.
+fn kind_of(rt: &impl Abort, graph: &Graph, set: &Names, u: u32) -> Kind {
+    if !is_same_set(&child(rt, graph, set, Kind::Parallel, u), set) {
+        return Kind::Parallel;
+    }
+    if !is_same_set(&child(rt, graph, set, Kind::Series, u), set) {
+        return Kind::Series;
+    }
+    Kind::Prime
+}
+
+// The children of a set that is a node of the kind, in order.
+fn children(
     rt: &impl Abort,
     alloc: Global,
     graph: &Graph,
     set: &Names,
+    kind: Kind,
 ) -> Result<Vec<Names>, Memory> {
     let mut sets = Vec::new(alloc);
     let mut rest = set.copy();
@@ -135,19 +167,11 @@ fn slow_children(
         let Some(u) = rest.first_from(0) else {
             return Ok(sets);
         };
-        let next = block(rt, graph, set, &rest, u);
+        let next = child(rt, graph, set, kind, u);
         rest = rest.minus(&next);
         sets.push(next)?;
     }
     Ok(sets)
-}
-
-// Sees that two lists have the same sets.
-fn expect_same(rt: &impl Abort, left: &[Names], right: &[Names]) {
-    assert_eq!(rt; left.len(), right.len());
-    for (first, second) in left.iter().zip(right) {
-        assert!(rt; is_same_set(first, second));
-    }
 }
 
 // What is still to be written of a tree.
@@ -157,8 +181,7 @@ enum Piece {
     Word(String),
 }
 
-// Sees that both programs give a set the same children, and writes its name, or how the text of its
-// node begins; the rest waits.
+// Writes the name of a set, or how the text of its node begins; the rest waits.
 fn divide(
     rt: &impl Abort,
     alloc: Global,
@@ -167,34 +190,23 @@ fn divide(
     waiting: &mut Vec<Piece>,
     written: &mut String,
 ) -> Result<(), Memory> {
-    let within = set.and(graph.vertices());
-    let Some(_) = within.first_from(0) else {
+    let Some(first) = set.first_from(0) else {
         return Ok(());
     };
-    if let Some(name) = within.only_member() {
-        let word = format!(in alloc; "{name}")?;
+    if set.count() == 1 {
+        let word = format!(in alloc; "{first}")?;
         written.push_str(word.as_str())?;
         return Ok(());
     }
-    let mut chain = Nested::none(alloc);
-    let mut places = Vec::new(alloc);
-    let (kind, sets, edges) = children(alloc, graph, &within, None, &mut chain, &mut places)?;
-    let sets = unpacked(alloc, sets)?;
-    if matches!(kind, Kind::Prime) {
-        expect_same(rt, &sets, &slow_children(rt, alloc, graph, set)?);
-    }
+    let kind = kind_of(rt, graph, set, first);
+    let sets = children(rt, alloc, graph, set, kind)?;
     written.push_str(letter(kind))?;
-    waiting.push(Piece::Word(behind(alloc, &edges)?))?;
+    let end = match kind {
+        Kind::Prime => pairs_of(rt, alloc, graph, &sets)?,
+        _ => String::new(alloc),
+    };
+    waiting.push(Piece::Word(format!(in alloc; "{end})")?))?;
     push_sets(alloc, sets, waiting)
-}
-
-fn unpacked(alloc: Global, blocks: Vec<CompactSet<WORDS>>) -> Result<Vec<Names>, Memory> {
-    let mut sets = Vec::new(alloc);
-    for block in blocks {
-        let mut room = None;
-        sets.push(block.set_in(&mut room).copy())?;
-    }
-    Ok(sets)
 }
 
 fn letter(kind: Kind) -> &'static str {
@@ -205,15 +217,31 @@ fn letter(kind: Kind) -> &'static str {
     }
 }
 
-// How the text of a node ends.
-fn behind(alloc: Global, edges: &QuotientEdges) -> Result<String, Memory> {
+// Whether the first names of two sets are adjacent.
+fn are_adjacent(rt: &impl Abort, graph: &Graph, left: &Names, right: &Names) -> bool {
+    let (Some(u), Some(v)) = (left.first_from(0), right.first_from(0)) else {
+        panic!(rt; "an empty child");
+    };
+    graph.has_edge(u, v)
+}
+
+// The pairs of children of a prime node between whose names there are edges, as its text has them.
+fn pairs_of(
+    rt: &impl Abort,
+    alloc: Global,
+    graph: &Graph,
+    sets: &[Names],
+) -> Result<String, Memory> {
     let mut word = String::new(alloc);
-    for (place, pair) in edges.list.iter().enumerate() {
-        word.push_str(if place == 0 { ";" } else { "," })?;
-        let next = format!(in alloc; "{}-{}", pair.low, pair.high)?;
-        word.push_str(next.as_str())?;
+    for (i, left) in sets.iter().enumerate() {
+        for (j, right) in sets.iter().enumerate() {
+            if i < j && are_adjacent(rt, graph, left, right) {
+                let mark = if word.is_empty() { ';' } else { ',' };
+                let next = format!(in alloc; "{mark}{i}-{j}")?;
+                word.push_str(next.as_str())?;
+            }
+        }
     }
-    word.push(')')?;
     Ok(word)
 }
 

@@ -1,7 +1,5 @@
 //! Trees of small directed graphs, right ones and altered ones.
-mod reports;
-
-use super::*;
+use md_dcheck::fits_directed;
 use md_digraph::{Digraph, DigraphOf};
 use md_digraph6::{DirectedLines, scan_directed};
 use md_dtree::{DChildren, DKind, DPairs, DTree, read_directed};
@@ -11,7 +9,7 @@ use std::process::Abort;
 use std::test::Fail;
 
 // The directed graph of the one line of a file.
-pub(crate) fn digraph(rt: &impl Abort, alloc: Global, file: &[u8]) -> Result<Digraph, Memory> {
+fn digraph(rt: &impl Abort, alloc: Global, file: &[u8]) -> Result<Digraph, Memory> {
     let mut graph = Digraph::new(alloc)?;
     if scan_directed(file).is_err() {
         panic!(rt; "a fault");

@@ -1,6 +1,6 @@
 use Rattle.std.proofs.Common.{rules}
 use Rattle.md_graph.proofs.SetLemmas.{Has-along, of_meet}
-use Rattle.md_decompose.proofs.tests.check_within.Goals as goal
+use Rattle.md_tree_tests.proofs.decompositions.check_within.Goals as goal
 
 pub decompose_within-requires : goal.decompose_within-requires
 decompose_within-requires g c = (

@@ -1,8 +1,9 @@
 //! Reports of directed trees and their answers.
-use super::*;
 use md_checker::CheckAnswer;
+use md_dcheck::check_directed;
 use md_graph6::{G6Fault, G6Kind};
 use md_input::{Fault, InputStop};
+use std::test::Fail;
 
 #[test]
 fn reports_of_trees(rt: HostRuntime) {
@@ -78,4 +79,66 @@ fn faulty_files(rt: HostRuntime) {
         };
         assert_eq!(rt; fault, G6Fault { kind, line: 1 });
     }
+}
+
+// A path of eleven vertices.
+const PATH: &[u8] = b"&JO?O?O?O?O?O?O?O?O?O??\n";
+
+static TEXTS: [(&[u8], &[u8], bool); 14] = [
+    (b"&?\n", b"empty", true),
+    (b"&@?\n", b"0", true),
+    (b"&AW\n", b"S(0,1)", true),
+    (b"&BCo\n", b"O(2,1,0)", true),
+    (b"&BCo\n", b"O(0,1,2)", false),
+    (b"&BC?\n", b"P(O(1,0),2)", true),
+    (b"&CQKo\n", b"O(P(2,3),S(0,1))", true),
+    (b"&CI`?\n", b"R(O(1,0),2,3;0>1,1>2)", true),
+    // The order of two is a module that this tree leaves out.
+    (b"&CI`?\n", b"R(0,1,2,3;0>2,1>0,1>2,2>3)", false),
+    (
+        PATH,
+        b"R(0,1,2,3,4,5,6,7,8,9,10;0>1,1>2,2>3,3>4,4>5,5>6,6>7,7>8,8>9,9>10)",
+        true,
+    ),
+    (
+        PATH,
+        b"R(0,1,2,3,4,5,6,7,8,9,10;0>1,1>2,2>3,3>4,4>5,5>6,6>7,7>8,8>9)",
+        false,
+    ),
+    (
+        PATH,
+        b"R(0,1,2,3,4,5,6,7,8,9,10;0>1,1>2,2>3,3>4,4>5,5>6,6>7,7>8,8>9,9>10,10>9)",
+        false,
+    ),
+    (
+        PATH,
+        b"R(0,1,2,3,4,5,6,7,8,9,10;0>1,1>2,2>3,3>4,5>6,4>5,6>7,7>8,8>9,9>10)",
+        false,
+    ),
+    (
+        PATH,
+        b"R(0,1,2,3,4,5,6,7,8,9,10;0>1,1>2,2>3,3>4,4>5,5>6,6>7,7>8,8>9,9>1)",
+        false,
+    ),
+];
+
+#[test]
+fn texts_of_trees(rt: HostRuntime) -> Result<(), Fail> {
+    let alloc = rt.alloc();
+    for (file, text, want) in TEXTS {
+        let mut report = Vec::new(alloc);
+        for piece in [b"mdt dtree\nt ", text, b"\nend\n"] {
+            report.extend_from_slice(piece)?;
+        }
+        let Ok(answer) = check_directed(alloc, file, &report) else {
+            panic!(rt; "stopped");
+        };
+        let wanted = if want {
+            CheckAnswer::Accepted
+        } else {
+            CheckAnswer::Rejected(2)
+        };
+        assert_eq!(rt; answer, wanted);
+    }
+    Ok(())
 }

@@ -1,7 +1,7 @@
 //! Lines and their texts, there and back.
-use super::*;
 use md_forcing::{Arc, Arcs, Chain};
 use md_modules::P4;
+use md_report::{Line, LineFault, Mode, Order, read_line, write_applied, write_line, write_tree};
 use md_script::EditReason;
 use md_tree::{Tree, read_tree};
 use std::test::Fail;
