@@ -117,64 +117,67 @@ fn lines_of_trees(rt: HostRuntime) -> Result<(), Fail> {
     Ok(())
 }
 
+static NO_LINES: [&str; 17] = [
+    "",
+    "okay",
+    "ok ",
+    "mdt",
+    "mdt edits",
+    "t 01",
+    "t empty ",
+    "t  7",
+    "ok P(1,0)",
+    "p4 0 1 2 3 4",
+    "p4 0 1 1 3",
+    "end ",
+    "yes/",
+    "yes 1 0 /0 1",
+    "yes 0>0",
+    "yes 0>16384",
+    "yes 0>1 2",
+];
+
+static NO_REFUSALS: [&str; 12] = [
+    "no",
+    "no ",
+    "no same ",
+    "no vertex 16384",
+    "no vertex 01",
+    "no taken",
+    "no edge",
+    "no p4 3 2 1 0",
+    "no g",
+    "no gc 0>1",
+    "no c 0>1 ",
+    "no 0>1,1>2",
+];
+
+static NO_GROUP_LINES: [&str; 11] = [
+    "no edit",
+    "no edit 1",
+    "no edit 0 same",
+    "no edit 01 same",
+    "no edit 200001 same",
+    "no edit 1 undo",
+    "no edit 1 edit 2 same",
+    "no edit 1 same ",
+    "no edit 1 g 0>1",
+    "no edit 1 p4 3 2 1 0",
+    "no undo ",
+];
+
 #[test]
 fn texts_of_no_line(rt: HostRuntime) -> Result<(), Fail> {
     let alloc = rt.alloc();
-    let table = [
-        "",
-        "okay",
-        "ok ",
-        "mdt",
-        "mdt edits",
-        "t 01",
-        "t empty ",
-        "t  7",
-        "ok P(1,0)",
-        "p4 0 1 2 3 4",
-        "p4 0 1 1 3",
-        "end ",
-        "yes/",
-        "yes 1 0 /0 1",
-        "yes 0>0",
-        "yes 0>16384",
-        "yes 0>1 2",
-    ];
-    for text in &table {
+    for text in &NO_LINES {
         let read = read_line(alloc, text.as_bytes());
         assert!(rt; matches!(read, Err(LineFault::Syntax)), "{text}");
     }
-    let refusals = [
-        "no",
-        "no ",
-        "no same ",
-        "no vertex 16384",
-        "no vertex 01",
-        "no taken",
-        "no edge",
-        "no p4 3 2 1 0",
-        "no g",
-        "no gc 0>1",
-        "no c 0>1 ",
-        "no 0>1,1>2",
-    ];
-    let groups = [
-        "no edit",
-        "no edit 1",
-        "no edit 0 same",
-        "no edit 01 same",
-        "no edit 200001 same",
-        "no edit 1 undo",
-        "no edit 1 edit 2 same",
-        "no edit 1 same ",
-        "no edit 1 g 0>1",
-        "no edit 1 p4 3 2 1 0",
-        "no undo ",
-    ];
-    for text in &refusals {
+    for text in &NO_REFUSALS {
         let read = read_line(alloc, text.as_bytes());
         assert!(rt; matches!(read, Err(LineFault::Syntax)), "{text}");
     }
-    for text in &groups {
+    for text in &NO_GROUP_LINES {
         let read = read_line(alloc, text.as_bytes());
         assert!(rt; matches!(read, Err(LineFault::Syntax)), "{text}");
     }

@@ -21,86 +21,108 @@ fn answer_of(
     answer
 }
 
+const ACCEPTED: CheckAnswer = CheckAnswer::Accepted;
+
+const GROWN: (&[u8], &[u8]) = (b"@\n", b"+v 1 0\n+v 1\n");
+
+const PATH_EDIT: (&[u8], &[u8]) = (b"Ch\n", b"+e 0 2\n");
+
+const REFUSED: (&[u8], &[u8]) = (b"Cg\n", b"+e 2 3\n+e 1 3\n");
+
+const ALONE: (&[u8], &[u8]) = (b"@\n", b"");
+
+const PATH_ALONE: (&[u8], &[u8]) = (b"Ch\n", b"");
+
+const PATH_GROWN: (&[u8], &[u8]) = (b"C?\n", b"+e 0 1\n+e 1 2\n+e 2 3\n+e 0 1\n");
+
+const CYCLE: (&[u8], &[u8]) = (b"Cl\n", b"+v 0\n");
+
+const NESTED: (&[u8], &[u8]) = (b"Etg?\n", b"+v 0\n");
+
+const PATH_OF_FOUR: (&[u8], &[u8]) = (b"DHC\n", b"+v 0\n");
+
+const CYCLE_OF_FIVE: (&[u8], &[u8]) = (b"Dhc\n", b"+v 0\n");
+
+static OVER_GRAPHS: [(GraphMode, &[u8], &[u8], CheckAnswer); 14] = [
+    (
+        GraphMode::Tree,
+        b"Bw\n",
+        b"mdt tree\nt S(0,1,2)\nend\n",
+        ACCEPTED,
+    ),
+    (
+        GraphMode::Tree,
+        b"Bw\n",
+        b"mdt tree\nt S(0,1,2)\n",
+        CheckAnswer::Rejected(3),
+    ),
+    (
+        GraphMode::Tree,
+        b"Bw\n",
+        b"mdt tree\nt S(0,1,2)\nend",
+        CheckAnswer::Rejected(3),
+    ),
+    (
+        GraphMode::Tree,
+        b"Bw\n",
+        b"mdt tree\nt S(0,1,2)\nend\nend\n",
+        CheckAnswer::Rejected(4),
+    ),
+    (
+        GraphMode::Tree,
+        b"Bw\n",
+        b"mdt tree\nt P(0,1,2)\nend\n",
+        CheckAnswer::Rejected(2),
+    ),
+    (
+        GraphMode::Tree,
+        b"Bw\n",
+        b"mdt tree\nt S(0,1,2)\nt S(0,1,2)\nend\n",
+        CheckAnswer::Rejected(3),
+    ),
+    (
+        GraphMode::Tree,
+        b"Bw\n",
+        b"mdt edit\nt S(0,1,2)\nend\n",
+        CheckAnswer::Rejected(1),
+    ),
+    (
+        GraphMode::Tree,
+        b"Bw\n",
+        b"mdt tree\r\nt S(0,1,2)\nend\n",
+        CheckAnswer::Rejected(1),
+    ),
+    (GraphMode::Tree, b"Bw\n", b"", CheckAnswer::Rejected(1)),
+    (GraphMode::Tree, b"", b"mdt tree\nend\n", ACCEPTED),
+    (
+        GraphMode::Compare,
+        b"Bw\n",
+        b"mdt compare\nyes 0>1 0>2 1>2\nend\n",
+        ACCEPTED,
+    ),
+    (
+        GraphMode::Compare,
+        b"Bw\n",
+        b"mdt compare\nyes 0>1 0>2 2>1\nend\n",
+        CheckAnswer::Rejected(2),
+    ),
+    (
+        GraphMode::Permute,
+        b"Bw\n",
+        b"mdt permute\nyes 0 1 2 / 2 1 0\nend\n",
+        ACCEPTED,
+    ),
+    (
+        GraphMode::Permute,
+        b"Bw\n",
+        b"mdt permute\nyes 0 1 2 / 2 0 1\nend\n",
+        CheckAnswer::Rejected(2),
+    ),
+];
+
 #[test]
 fn reports_over_graphs(rt: HostRuntime) {
-    let accepted = CheckAnswer::Accepted;
-    let cases: [(GraphMode, &[u8], &[u8], CheckAnswer); 14] = [
-        (
-            GraphMode::Tree,
-            b"Bw\n",
-            b"mdt tree\nt S(0,1,2)\nend\n",
-            accepted,
-        ),
-        (
-            GraphMode::Tree,
-            b"Bw\n",
-            b"mdt tree\nt S(0,1,2)\n",
-            CheckAnswer::Rejected(3),
-        ),
-        (
-            GraphMode::Tree,
-            b"Bw\n",
-            b"mdt tree\nt S(0,1,2)\nend",
-            CheckAnswer::Rejected(3),
-        ),
-        (
-            GraphMode::Tree,
-            b"Bw\n",
-            b"mdt tree\nt S(0,1,2)\nend\nend\n",
-            CheckAnswer::Rejected(4),
-        ),
-        (
-            GraphMode::Tree,
-            b"Bw\n",
-            b"mdt tree\nt P(0,1,2)\nend\n",
-            CheckAnswer::Rejected(2),
-        ),
-        (
-            GraphMode::Tree,
-            b"Bw\n",
-            b"mdt tree\nt S(0,1,2)\nt S(0,1,2)\nend\n",
-            CheckAnswer::Rejected(3),
-        ),
-        (
-            GraphMode::Tree,
-            b"Bw\n",
-            b"mdt edit\nt S(0,1,2)\nend\n",
-            CheckAnswer::Rejected(1),
-        ),
-        (
-            GraphMode::Tree,
-            b"Bw\n",
-            b"mdt tree\r\nt S(0,1,2)\nend\n",
-            CheckAnswer::Rejected(1),
-        ),
-        (GraphMode::Tree, b"Bw\n", b"", CheckAnswer::Rejected(1)),
-        (GraphMode::Tree, b"", b"mdt tree\nend\n", accepted),
-        (
-            GraphMode::Compare,
-            b"Bw\n",
-            b"mdt compare\nyes 0>1 0>2 1>2\nend\n",
-            accepted,
-        ),
-        (
-            GraphMode::Compare,
-            b"Bw\n",
-            b"mdt compare\nyes 0>1 0>2 2>1\nend\n",
-            CheckAnswer::Rejected(2),
-        ),
-        (
-            GraphMode::Permute,
-            b"Bw\n",
-            b"mdt permute\nyes 0 1 2 / 2 1 0\nend\n",
-            accepted,
-        ),
-        (
-            GraphMode::Permute,
-            b"Bw\n",
-            b"mdt permute\nyes 0 1 2 / 2 0 1\nend\n",
-            CheckAnswer::Rejected(2),
-        ),
-    ];
-    for (mode, file, report, want) in &cases {
+    for (mode, file, report, want) in &OVER_GRAPHS {
         let got = answer_of(&rt, rt.alloc(), *mode, *file, *report);
         assert!(&rt; got == *want);
     }
@@ -143,209 +165,197 @@ fn session_answer(
     answer
 }
 
+static OF_SESSIONS: [(SessionMode, (&[u8], &[u8]), &[u8], CheckAnswer); 13] = [
+    (
+        SessionMode::Edit,
+        GROWN,
+        b"mdt edit\nt 0\nok S(0,1)\nno taken 1\nend\n",
+        ACCEPTED,
+    ),
+    (
+        SessionMode::Edit,
+        GROWN,
+        b"mdt edit\nt 0\nok S(0,1)\nend\n",
+        CheckAnswer::Rejected(4),
+    ),
+    (
+        SessionMode::Edit,
+        GROWN,
+        b"mdt edit\nt 0\nok P(0,1)\nno taken 1\nend\n",
+        CheckAnswer::Rejected(3),
+    ),
+    (
+        SessionMode::Cograph,
+        PATH_EDIT,
+        b"mdt cograph\np4 0 1 2 3\nend\n",
+        ACCEPTED,
+    ),
+    (
+        SessionMode::Cograph,
+        PATH_EDIT,
+        b"mdt cograph\np4 0 1 2 3\nok S(2,P(0,1,3))\nend\n",
+        CheckAnswer::Rejected(3),
+    ),
+    (
+        SessionMode::Cograph,
+        PATH_EDIT,
+        b"mdt cograph\np4 0 2 1 3\nend\n",
+        CheckAnswer::Rejected(2),
+    ),
+    // The tree is right, but the graph is no cograph.
+    (
+        SessionMode::Cograph,
+        PATH_EDIT,
+        b"mdt cograph\nt R(0,1,2,3;0-1,1-2,2-3)\nend\n",
+        CheckAnswer::Rejected(2),
+    ),
+    (
+        SessionMode::Cograph,
+        REFUSED,
+        b"mdt cograph\nt P(S(P(0,2),1),3)\nno p4 0 1 2 3\nok S(P(0,2,3),1)\nend\n",
+        ACCEPTED,
+    ),
+    (
+        SessionMode::Cograph,
+        REFUSED,
+        b"mdt cograph\nt P(S(0,1,2),3)\nno p4 0 1 2 3\nok S(P(0,2,3),1)\nend\n",
+        CheckAnswer::Rejected(2),
+    ),
+    (
+        SessionMode::Cograph,
+        REFUSED,
+        b"mdt cograph\nt P(S(P(0,2),1),3)\nok R(0,1,2,3;0-1,1-2,2-3)\n",
+        CheckAnswer::Rejected(3),
+    ),
+    (
+        SessionMode::Cograph,
+        REFUSED,
+        b"mdt cograph\nt P(S(P(0,2),1),3)\nno p4 0 1 2 3\nok S(P(0,2),1,3)\nend\n",
+        CheckAnswer::Rejected(4),
+    ),
+    (
+        SessionMode::Cograph,
+        REFUSED,
+        b"mdt cograph\nt P(S(P(0,2),1),3)\nno p4 0 1 2 3\nok\nend\n",
+        CheckAnswer::Rejected(4),
+    ),
+    (
+        SessionMode::Edit,
+        (b"Ch\n", b""),
+        b"mdt edit\nt R(0,1,2,3;0-1,1-2,2-3)\nend\n",
+        ACCEPTED,
+    ),
+];
+
 #[test]
 fn reports_of_sessions(rt: HostRuntime) {
-    let accepted = CheckAnswer::Accepted;
-    let grown: (&[u8], &[u8]) = (b"@\n", b"+v 1 0\n+v 1\n");
-    let path: (&[u8], &[u8]) = (b"Ch\n", b"+e 0 2\n");
-    let refused: (&[u8], &[u8]) = (b"Cg\n", b"+e 2 3\n+e 1 3\n");
-    let cases: [(SessionMode, (&[u8], &[u8]), &[u8], CheckAnswer); 13] = [
-        (
-            SessionMode::Edit,
-            grown,
-            b"mdt edit\nt 0\nok S(0,1)\nno taken 1\nend\n",
-            accepted,
-        ),
-        (
-            SessionMode::Edit,
-            grown,
-            b"mdt edit\nt 0\nok S(0,1)\nend\n",
-            CheckAnswer::Rejected(4),
-        ),
-        (
-            SessionMode::Edit,
-            grown,
-            b"mdt edit\nt 0\nok P(0,1)\nno taken 1\nend\n",
-            CheckAnswer::Rejected(3),
-        ),
-        (
-            SessionMode::Cograph,
-            path,
-            b"mdt cograph\np4 0 1 2 3\nend\n",
-            accepted,
-        ),
-        (
-            SessionMode::Cograph,
-            path,
-            b"mdt cograph\np4 0 1 2 3\nok S(2,P(0,1,3))\nend\n",
-            CheckAnswer::Rejected(3),
-        ),
-        (
-            SessionMode::Cograph,
-            path,
-            b"mdt cograph\np4 0 2 1 3\nend\n",
-            CheckAnswer::Rejected(2),
-        ),
-        // The tree is right, but the graph is no cograph.
-        (
-            SessionMode::Cograph,
-            path,
-            b"mdt cograph\nt R(0,1,2,3;0-1,1-2,2-3)\nend\n",
-            CheckAnswer::Rejected(2),
-        ),
-        (
-            SessionMode::Cograph,
-            refused,
-            b"mdt cograph\nt P(S(P(0,2),1),3)\nno p4 0 1 2 3\nok S(P(0,2,3),1)\nend\n",
-            accepted,
-        ),
-        (
-            SessionMode::Cograph,
-            refused,
-            b"mdt cograph\nt P(S(0,1,2),3)\nno p4 0 1 2 3\nok S(P(0,2,3),1)\nend\n",
-            CheckAnswer::Rejected(2),
-        ),
-        (
-            SessionMode::Cograph,
-            refused,
-            b"mdt cograph\nt P(S(P(0,2),1),3)\nok R(0,1,2,3;0-1,1-2,2-3)\n",
-            CheckAnswer::Rejected(3),
-        ),
-        (
-            SessionMode::Cograph,
-            refused,
-            b"mdt cograph\nt P(S(P(0,2),1),3)\nno p4 0 1 2 3\nok S(P(0,2),1,3)\nend\n",
-            CheckAnswer::Rejected(4),
-        ),
-        (
-            SessionMode::Cograph,
-            refused,
-            b"mdt cograph\nt P(S(P(0,2),1),3)\nno p4 0 1 2 3\nok\nend\n",
-            CheckAnswer::Rejected(4),
-        ),
-        (
-            SessionMode::Edit,
-            (b"Ch\n", b""),
-            b"mdt edit\nt R(0,1,2,3;0-1,1-2,2-3)\nend\n",
-            accepted,
-        ),
-    ];
-    for (mode, files, report, want) in &cases {
+    for (mode, files, report, want) in &OF_SESSIONS {
         let got = session_answer(&rt, rt.alloc(), *mode, *files, *report);
         assert!(&rt; got == *want);
     }
 }
 
+static QUIET: [((&[u8], &[u8]), &[u8], CheckAnswer); 23] = [
+    (ALONE, b"mdt quiet\nt 0\nend\n", ACCEPTED),
+    (ALONE, b"mdt quiet\nt 1\nend\n", CheckAnswer::Rejected(2)),
+    (ALONE, b"mdt quiet\nt 0\n", CheckAnswer::Rejected(3)),
+    (
+        PATH_ALONE,
+        b"mdt quiet\nt R(0,1,2,3;0-1,1-2,2-3)\nend\n",
+        CheckAnswer::Rejected(2),
+    ),
+    (
+        PATH_GROWN,
+        b"mdt quiet\nok\nok\nno p4 0 1 2 3\nno edge-there\nt P(S(0,1,2),3)\nend\n",
+        CheckAnswer::Rejected(6),
+    ),
+    (PATH_EDIT, b"mdt quiet\np4 0 1 2 3\nend\n", ACCEPTED),
+    (PATH_EDIT, b"mdt quiet\nok\n", CheckAnswer::Rejected(2)),
+    (
+        PATH_GROWN,
+        b"mdt quiet\nok\nok\nno p4 0 1 2 3\nno edge-there\nt P(S(P(0,2),1),3)\nend\n",
+        ACCEPTED,
+    ),
+    (
+        PATH_GROWN,
+        b"ok\nok\nno p4 0 1 2 3\nno edge-there\nt P(S(P(0,2),1),3)\nend\n",
+        CheckAnswer::Rejected(1),
+    ),
+    (
+        PATH_GROWN,
+        b"mdt quiet\nok\nno p4 0 1 2 3\nno edge-there\nt P(S(P(0,2),1),3)\nend\n",
+        CheckAnswer::Rejected(3),
+    ),
+    (
+        PATH_GROWN,
+        b"mdt quiet\nok\nok\nno edge-there\nt P(S(P(0,2),1),3)\nend\n",
+        CheckAnswer::Rejected(4),
+    ),
+    (
+        PATH_GROWN,
+        b"mdt quiet\nok\nok\nno p4 0 1 2 3\nt P(S(P(0,2),1),3)\nend\n",
+        CheckAnswer::Rejected(5),
+    ),
+    (
+        PATH_GROWN,
+        b"mdt quiet\nok\nok\nno p4 0 1 2 3\nno edge-there\nend\n",
+        CheckAnswer::Rejected(6),
+    ),
+    (
+        PATH_GROWN,
+        b"mdt quiet\nok\nok\nno p4 0 1 2 3\nno edge-there\nt P(S(P(0,2),1),3)\n",
+        CheckAnswer::Rejected(7),
+    ),
+    (
+        PATH_GROWN,
+        b"mdt quiet\nok\nok\nok\nno edge-there\nt P(0,1,2,3)\nend\n",
+        CheckAnswer::Rejected(4),
+    ),
+    (
+        PATH_GROWN,
+        b"mdt quiet\nok P(S(0,1),2,3)\n",
+        CheckAnswer::Rejected(2),
+    ),
+    (
+        PATH_GROWN,
+        b"mdt quiet\nok\nt P(S(0,1),2,3)\n",
+        CheckAnswer::Rejected(3),
+    ),
+    (
+        PATH_GROWN,
+        b"mdt quiet\np4 0 1 2 3\nend\n",
+        CheckAnswer::Rejected(2),
+    ),
+    (
+        (b"?\n", b"+e 0 1\n"),
+        b"mdt quiet\nno vertex 0\nt empty\nend\n",
+        ACCEPTED,
+    ),
+    (
+        CYCLE,
+        b"mdt quiet\nno taken 0\nt S(P(0,2),P(1,3))\nend\n",
+        ACCEPTED,
+    ),
+    (
+        NESTED,
+        b"mdt quiet\nno taken 0\nt P(S(0,P(1,S(2,P(3,4)))),5)\nend\n",
+        ACCEPTED,
+    ),
+    (
+        PATH_OF_FOUR,
+        b"mdt quiet\nno taken 0\n",
+        CheckAnswer::Rejected(2),
+    ),
+    (
+        CYCLE_OF_FIVE,
+        b"mdt quiet\nno taken 0\n",
+        CheckAnswer::Rejected(2),
+    ),
+];
+
 #[test]
 fn reports_in_mode_quiet(rt: HostRuntime) {
-    let accepted = CheckAnswer::Accepted;
-    let alone: (&[u8], &[u8]) = (b"@\n", b"");
-    let path: (&[u8], &[u8]) = (b"Ch\n", b"+e 0 2\n");
-    let path_alone: (&[u8], &[u8]) = (b"Ch\n", b"");
-    let grown: (&[u8], &[u8]) = (b"C?\n", b"+e 0 1\n+e 1 2\n+e 2 3\n+e 0 1\n");
-    // The last four graphs of the table: two are cographs.
-    let cycle: (&[u8], &[u8]) = (b"Cl\n", b"+v 0\n");
-    let nested: (&[u8], &[u8]) = (b"Etg?\n", b"+v 0\n");
-    let path_of_four: (&[u8], &[u8]) = (b"DHC\n", b"+v 0\n");
-    let cycle_of_five: (&[u8], &[u8]) = (b"Dhc\n", b"+v 0\n");
-    let cases: [((&[u8], &[u8]), &[u8], CheckAnswer); 23] = [
-        (alone, b"mdt quiet\nt 0\nend\n", accepted),
-        (alone, b"mdt quiet\nt 1\nend\n", CheckAnswer::Rejected(2)),
-        (alone, b"mdt quiet\nt 0\n", CheckAnswer::Rejected(3)),
-        (
-            path_alone,
-            b"mdt quiet\nt R(0,1,2,3;0-1,1-2,2-3)\nend\n",
-            CheckAnswer::Rejected(2),
-        ),
-        (
-            grown,
-            b"mdt quiet\nok\nok\nno p4 0 1 2 3\nno edge-there\nt P(S(0,1,2),3)\nend\n",
-            CheckAnswer::Rejected(6),
-        ),
-        (path, b"mdt quiet\np4 0 1 2 3\nend\n", accepted),
-        (path, b"mdt quiet\nok\n", CheckAnswer::Rejected(2)),
-        (
-            grown,
-            b"mdt quiet\nok\nok\nno p4 0 1 2 3\nno edge-there\nt P(S(P(0,2),1),3)\nend\n",
-            accepted,
-        ),
-        (
-            grown,
-            b"ok\nok\nno p4 0 1 2 3\nno edge-there\nt P(S(P(0,2),1),3)\nend\n",
-            CheckAnswer::Rejected(1),
-        ),
-        (
-            grown,
-            b"mdt quiet\nok\nno p4 0 1 2 3\nno edge-there\nt P(S(P(0,2),1),3)\nend\n",
-            CheckAnswer::Rejected(3),
-        ),
-        (
-            grown,
-            b"mdt quiet\nok\nok\nno edge-there\nt P(S(P(0,2),1),3)\nend\n",
-            CheckAnswer::Rejected(4),
-        ),
-        (
-            grown,
-            b"mdt quiet\nok\nok\nno p4 0 1 2 3\nt P(S(P(0,2),1),3)\nend\n",
-            CheckAnswer::Rejected(5),
-        ),
-        (
-            grown,
-            b"mdt quiet\nok\nok\nno p4 0 1 2 3\nno edge-there\nend\n",
-            CheckAnswer::Rejected(6),
-        ),
-        (
-            grown,
-            b"mdt quiet\nok\nok\nno p4 0 1 2 3\nno edge-there\nt P(S(P(0,2),1),3)\n",
-            CheckAnswer::Rejected(7),
-        ),
-        (
-            grown,
-            b"mdt quiet\nok\nok\nok\nno edge-there\nt P(0,1,2,3)\nend\n",
-            CheckAnswer::Rejected(4),
-        ),
-        (
-            grown,
-            b"mdt quiet\nok P(S(0,1),2,3)\n",
-            CheckAnswer::Rejected(2),
-        ),
-        (
-            grown,
-            b"mdt quiet\nok\nt P(S(0,1),2,3)\n",
-            CheckAnswer::Rejected(3),
-        ),
-        (
-            grown,
-            b"mdt quiet\np4 0 1 2 3\nend\n",
-            CheckAnswer::Rejected(2),
-        ),
-        (
-            (b"?\n", b"+e 0 1\n"),
-            b"mdt quiet\nno vertex 0\nt empty\nend\n",
-            accepted,
-        ),
-        (
-            cycle,
-            b"mdt quiet\nno taken 0\nt S(P(0,2),P(1,3))\nend\n",
-            accepted,
-        ),
-        (
-            nested,
-            b"mdt quiet\nno taken 0\nt P(S(0,P(1,S(2,P(3,4)))),5)\nend\n",
-            accepted,
-        ),
-        (
-            path_of_four,
-            b"mdt quiet\nno taken 0\n",
-            CheckAnswer::Rejected(2),
-        ),
-        (
-            cycle_of_five,
-            b"mdt quiet\nno taken 0\n",
-            CheckAnswer::Rejected(2),
-        ),
-    ];
-    for (files, report, want) in &cases {
+    for (files, report, want) in &QUIET {
         let got = session_answer(&rt, rt.alloc(), SessionMode::Quiet, *files, *report);
         assert!(&rt; got == *want);
     }
