@@ -1,4 +1,7 @@
 //! Reports and their answers.
+ghost use Rattle.md_report.specs.Lines.{plain_line};
+ghost use Rattle.md_report.specs.WellFormedLines.{IsWellFormedLine};
+
 use md_checker::{CheckAnswer, Checker, check_graphs, check_session};
 use md_input::Format;
 use md_report::{GraphMode, Line, Mode, SessionMode};
@@ -361,6 +364,45 @@ fn reports_in_mode_quiet(rt: HostRuntime) {
     }
 }
 
+// Sees whether the checker takes the line. Condition: the line is well-formed.
+fn feed(
+    rt: &impl Abort,
+    alloc: Global,
+    checker: &mut Checker<'_>,
+    line: &Line,
+    want: bool,
+) -> Result<(), Fail>
+    requires { IsWellFormedLine (plain_line line.now) }
+{
+    assert_eq!(rt; checker.feed(alloc, line)?, want);
+    Ok(())
+}
+
+// Sees whether the lines so far are a whole report.
+fn expect_complete(rt: &impl Abort, checker: &Checker<'_>, want: bool) {
+    assert_eq!(rt; checker.complete(), want);
+}
+
+// Feeds a checker of the tree report of one graph.
+fn feed_lines(
+    rt: &impl Abort,
+    alloc: Global,
+    checker: &mut Checker<'_>,
+    tree: &Line,
+) -> Result<(), Fail>
+    requires { IsWellFormedLine (plain_line tree.now) }
+{
+    feed(rt, alloc, checker, &Line::End, false)?;
+    expect_complete(rt, checker, false);
+    feed(rt, alloc, checker, &Line::Head(Mode::Tree), true)?;
+    feed(rt, alloc, checker, &Line::End, false)?;
+    feed(rt, alloc, checker, tree, true)?;
+    expect_complete(rt, checker, false);
+    feed(rt, alloc, checker, &Line::End, true)?;
+    expect_complete(rt, checker, true);
+    Ok(())
+}
+
 #[test]
 fn lines_fed(rt: HostRuntime) -> Result<(), Fail> {
     let alloc = rt.alloc();
@@ -370,13 +412,5 @@ fn lines_fed(rt: HostRuntime) -> Result<(), Fail> {
     let Ok(tree) = read_tree(alloc, b"R(P(0,4),1,2,3;0-1,1-2,2-3)") else {
         panic!(&rt; "not read");
     };
-    assert!(&rt; !checker.feed(alloc, &Line::End)?);
-    assert!(&rt; !checker.complete());
-    assert!(&rt; checker.feed(alloc, &Line::Head(Mode::Tree))?);
-    assert!(&rt; !checker.feed(alloc, &Line::End)?);
-    assert!(&rt; checker.feed(alloc, &Line::Tree(tree))?);
-    assert!(&rt; !checker.complete());
-    assert!(&rt; checker.feed(alloc, &Line::End)?);
-    assert!(&rt; checker.complete());
-    Ok(())
+    feed_lines(&rt, alloc, &mut checker, &Line::Tree(tree))
 }
