@@ -15,6 +15,3 @@ mod room;
 pub use file::scan_directed;
 pub use reader::DirectedLines;
 pub use room::{DigraphBySize, DirectedRoom};
-
-#[cfg(test)]
-mod tests;

@@ -10,8 +10,6 @@ pub mod laws;
 mod line;
 mod reader;
 mod spelling;
-#[cfg(test)]
-mod tests;
 mod writer;
 
 pub use fault::{DimacsFault, DimacsKind};

@@ -20,6 +20,3 @@ pub use fault::{G6Fault, G6Kind};
 pub use file::scan;
 pub use reader::Lines;
 pub use writer::write;
-
-#[cfg(test)]
-mod tests;

@@ -439,6 +439,3 @@ pub fn write<const W: usize>(alloc: Global, graph: &GraphOf<W>) -> Result<Vec<u8
     text.push_reserved(b'\n');
     Ok(text)
 }
-
-#[cfg(test)]
-mod tests;

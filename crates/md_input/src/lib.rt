@@ -8,8 +8,6 @@ mod graphs;
 mod inputs;
 pub mod laws;
 mod room;
-#[cfg(test)]
-mod tests;
 
 pub use fault::{Fault, InputStop};
 pub use format::Format;

@@ -26,8 +26,6 @@ mod mem_files;
 mod mem_sink;
 mod safe_sink;
 mod system;
-#[cfg(test)]
-mod tests;
 
 pub use gathering_sink::GatheringSink;
 pub use mem_files::MemFiles;

@@ -23,6 +23,3 @@ pub use fields::{one_field, three_fields, two_numbers};
 pub use front::{skip_byte, small_number};
 pub use piece::Piece;
 pub use spelling::{digits_piece, number_piece, piece_behind};
-
-#[cfg(test)]
-mod tests;

@@ -1,16 +1,14 @@
-//! Whole files: what is read from them, and the fault that is named.
+//! Whole graph6 files: what is read from them, and the fault that is named.
 ghost use Rattle.std.specs.Prelude.{◌≡◌};
 ghost use Rattle.md_graph.specs.PlainGraph.{empty_graph};
 
-mod sparse;
-
-use crate::{G6Fault, G6Kind, Lines, scan};
 use md_graph::{Graph, GraphOf, NAMES};
+use md_graph6::{G6Fault, G6Kind, Lines, scan};
 use std::process::Abort;
 use std::test::Fail;
 
 // The number of vertices and the edges of a graph.
-type Wanted = (u32, &'static [(u32, u32)]);
+pub(super) type Wanted = (u32, &'static [(u32, u32)]);
 
 // The next graph of the file has these vertices and edges.
 fn gives(rt: &impl Abort, lines: &mut Lines, graph: &mut Graph, n: u32, edges: &[(u32, u32)])
@@ -42,25 +40,38 @@ fn spells(rt: &impl Abort, graph: &mut Graph, bytes: &[u8], graphs: &[Wanted])
     assert!(rt; !lines.next(graph));
 }
 
+// The files spell these graphs.
+pub(super) fn all_spell(rt: &impl Abort, graph: &mut Graph, files: &[(&[u8], &[Wanted])])
+    requires { graph.old ≡ empty_graph }
+    ensures { graph.new ≡ empty_graph }
+{
+    for (bytes, graphs) in files {
+        spells(rt, graph, *bytes, *graphs);
+    }
+}
+
 // The file has this first fault.
 fn refuses(rt: &impl Abort, bytes: &[u8], kind: G6Kind, line: u64) {
     assert_eq!(rt; scan(bytes, NAMES), Err(G6Fault { kind, line }));
 }
 
-#[test]
-fn files_spell(rt: HostRuntime) -> Result<(), Fail> {
-    let mut graph = Graph::new(rt.alloc())?;
-    let g = &mut graph;
-    spells(&rt, g, b"", &[]);
-    spells(&rt, g, b">>graph6<<", &[]);
-    spells(&rt, g, b"?\n", &[(0, &[])]);
-    spells(&rt, g, b"\r\n", &[]);
-    spells(&rt, g, b"DQc\n", &[(5, &[(0, 2), (0, 4), (1, 3), (3, 4)])]);
-    spells(&rt, g, b"DhO\n", &[(5, &[(0, 1), (1, 2), (2, 3), (1, 4)])]);
-    spells(&rt, g, b">>graph6<<Ch\n", &[(4, &[(0, 1), (1, 2), (2, 3)])]);
-    spells(
-        &rt,
-        g,
+// The files have these first faults.
+pub(super) fn all_refuse(rt: &impl Abort, files: &[(&[u8], G6Kind, u64)]) {
+    for (bytes, kind, line) in files {
+        refuses(rt, *bytes, *kind, *line);
+    }
+}
+
+// Files, and the graphs that they spell.
+static SPELLED: [(&[u8], &[Wanted]); 8] = [
+    (b"", &[]),
+    (b">>graph6<<", &[]),
+    (b"?\n", &[(0, &[])]),
+    (b"\r\n", &[]),
+    (b"DQc\n", &[(5, &[(0, 2), (0, 4), (1, 3), (3, 4)])]),
+    (b"DhO\n", &[(5, &[(0, 1), (1, 2), (2, 3), (1, 4)])]),
+    (b">>graph6<<Ch\n", &[(4, &[(0, 1), (1, 2), (2, 3)])]),
+    (
         b"@\nA?\nA_\n\nBw\r\nBg",
         &[
             (1, &[]),
@@ -69,7 +80,13 @@ fn files_spell(rt: HostRuntime) -> Result<(), Fail> {
             (3, &[(0, 1), (0, 2), (1, 2)]),
             (3, &[(0, 1), (1, 2)]),
         ],
-    );
+    ),
+];
+
+#[test]
+fn files_spell(rt: HostRuntime) -> Result<(), Fail> {
+    let mut graph = Graph::new(rt.alloc())?;
+    all_spell(&rt, &mut graph, &SPELLED);
     Ok(())
 }
 
@@ -119,22 +136,27 @@ fn limits(rt: HostRuntime) {
     assert_eq!(&rt; scan(b"@\n~@?@\n", 4_096), Err(many));
 }
 
+// Files, and their first faults.
+static REFUSED: [(&[u8], G6Kind, u64); 16] = [
+    (b"A`\n", G6Kind::BadPadding, 1),
+    (b"DhO\nDQ\n", G6Kind::Truncated, 2),
+    (b"~??}\n", G6Kind::BadSize, 1),
+    (b"~@?@\n", G6Kind::Truncated, 1),
+    (b"~C?@\n", G6Kind::TooManyVertices, 1),
+    (b"~?\n", G6Kind::Truncated, 1),
+    (b"A__\n", G6Kind::TrailingBytes, 1),
+    (b"@\nB!\n", G6Kind::BadByte, 2),
+    (b";Fa@x^\n", G6Kind::OtherFormat, 1),
+    (b"&DI?AO?\n", G6Kind::OtherFormat, 1),
+    (b"~~??????\n", G6Kind::BadSize, 1),
+    (b"~~???}~~\n", G6Kind::BadSize, 1),
+    (b"~~???~??\n", G6Kind::TooManyVertices, 1),
+    (b"~~~~~~~~\n", G6Kind::TooManyVertices, 1),
+    (b"~~?\n", G6Kind::Truncated, 1),
+    (b">>graph6<\n", G6Kind::BadByte, 1),
+];
+
 #[test]
 fn faults_are_named(rt: HostRuntime) {
-    refuses(&rt, b"A`\n", G6Kind::BadPadding, 1);
-    refuses(&rt, b"DhO\nDQ\n", G6Kind::Truncated, 2);
-    refuses(&rt, b"~??}\n", G6Kind::BadSize, 1);
-    refuses(&rt, b"~@?@\n", G6Kind::Truncated, 1);
-    refuses(&rt, b"~C?@\n", G6Kind::TooManyVertices, 1);
-    refuses(&rt, b"~?\n", G6Kind::Truncated, 1);
-    refuses(&rt, b"A__\n", G6Kind::TrailingBytes, 1);
-    refuses(&rt, b"@\nB!\n", G6Kind::BadByte, 2);
-    refuses(&rt, b";Fa@x^\n", G6Kind::OtherFormat, 1);
-    refuses(&rt, b"&DI?AO?\n", G6Kind::OtherFormat, 1);
-    refuses(&rt, b"~~??????\n", G6Kind::BadSize, 1);
-    refuses(&rt, b"~~???}~~\n", G6Kind::BadSize, 1);
-    refuses(&rt, b"~~???~??\n", G6Kind::TooManyVertices, 1);
-    refuses(&rt, b"~~~~~~~~\n", G6Kind::TooManyVertices, 1);
-    refuses(&rt, b"~~?\n", G6Kind::Truncated, 1);
-    refuses(&rt, b">>graph6<\n", G6Kind::BadByte, 1);
+    all_refuse(&rt, &REFUSED);
 }

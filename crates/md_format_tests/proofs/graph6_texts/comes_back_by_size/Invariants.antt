@@ -1,6 +1,6 @@
 use Rattle.std.proofs.Common.{◌≡◌}
 use Rattle.md_graph.specs.PlainGraph.{empty_graph}
-use Rattle.md_graph6.proofs.writer.tests.comes_back_by_size.Given as goal
+use Rattle.md_format_tests.proofs.graph6_texts.comes_back_by_size.Given as goal
 
 abbrev pub invariant-loop-n : goal.invariant-loop-n
 invariant-loop-n g l = record { small : l.small ≡ empty_graph; large : l.large ≡ empty_graph }

@@ -1,11 +1,13 @@
-//! What the calls answer with memory enough.
+//! Graph files and scripts in each format, as inputs of the program, with memory enough.
 ghost use Rattle.std.specs.Prelude.{◌≡◌, OnOk};
 ghost use Rattle.md_graph.specs.PlainGraph.{empty_graph};
 
-use super::*;
 use md_dimacs::{DimacsFault, DimacsKind};
 use md_graph::{Graph, Memory, NAMES};
 use md_graph6::{G6Fault, G6Kind};
+use md_input::{
+    Fault, Format, GraphBySize, Graphs, InputStop, Room, SessionInputs, session_inputs,
+};
 use md_script::ScriptKind;
 use std::alloc::Global;
 use std::process::Abort;
@@ -38,6 +40,25 @@ fn next_has(
     Ok(())
 }
 
+// The file is read, and this is what the room has of its graphs, one after the other.
+fn reads(
+    rt: &impl Abort,
+    alloc: Global,
+    from: Format,
+    file: &[u8],
+    wanted: &[(u32, u32, u32)],
+) -> Result<(), Fail> {
+    let Ok(mut graphs) = Graphs::read(alloc, NAMES, from, file) else {
+        panic!(rt; "a fault");
+    };
+    let mut room = Room::new(alloc)?;
+    for graph in wanted {
+        next_has(rt, alloc, &mut graphs, &mut room, *graph)?;
+    }
+    assert!(rt; !graphs.next_into(alloc, &mut room)?);
+    Ok(())
+}
+
 // The file has this fault.
 fn refuses(rt: &impl Abort, alloc: Global, from: Format, file: &[u8], fault: Fault) {
     let Err(stop) = Graphs::read(alloc, NAMES, from, file) else {
@@ -46,17 +67,13 @@ fn refuses(rt: &impl Abort, alloc: Global, from: Format, file: &[u8], fault: Fau
     assert!(rt; stop == InputStop::BadInput(fault));
 }
 
+// What the room has of the graphs of the first file.
+static THREE: [(u32, u32, u32); 3] = [(1, 1, 0), (1, 2, 0), (1, 3, 3)];
+
 #[test]
 fn graphs_of_files(rt: HostRuntime) -> Result<(), Fail> {
     let alloc = rt.alloc();
-    let mut room = Room::new(alloc)?;
-    let Ok(mut graphs) = Graphs::read(alloc, NAMES, Format::G6, b"@\nA?\n\nBw") else {
-        panic!(rt; "a fault");
-    };
-    next_has(&rt, alloc, &mut graphs, &mut room, (1, 1, 0))?;
-    next_has(&rt, alloc, &mut graphs, &mut room, (1, 2, 0))?;
-    next_has(&rt, alloc, &mut graphs, &mut room, (1, 3, 3))?;
-    assert!(rt; !graphs.next_into(alloc, &mut room)?);
+    reads(&rt, alloc, Format::G6, b"@\nA?\n\nBw", &THREE)?;
     let padded = G6Fault {
         kind: G6Kind::BadPadding,
         line: 2,
@@ -83,63 +100,66 @@ fn push_line(rt: &impl Abort, alloc: Global, n: u32, text: &mut Vec<u8>) -> Resu
 // The lines of graphs of so many vertices come one after the other into rows of so many words.
 fn come(rt: &impl Abort, alloc: Global, sizes: &[(u32, u32)]) -> Result<(), Fail> {
     let mut text = Vec::new(alloc);
-    for (n, _) in sizes {
-        push_line(rt, alloc, *n, &mut text)?;
-    }
-    let Ok(mut graphs) = Graphs::read(alloc, NAMES, Format::G6, &text) else {
-        panic!(rt; "a fault");
-    };
-    let mut room = Room::new(alloc)?;
+    let mut wanted = Vec::new(alloc);
     for (n, words) in sizes {
-        let edges = u32::from(*n > 1);
-        next_has(rt, alloc, &mut graphs, &mut room, (*words, *n, edges))?;
+        push_line(rt, alloc, *n, &mut text)?;
+        wanted.push((*words, *n, u32::from(*n > 1)))?;
     }
-    assert!(rt; !graphs.next_into(alloc, &mut room)?);
-    Ok(())
+    reads(rt, alloc, Format::G6, &text, &wanted)
 }
+
+// Numbers of vertices, and the words a row that they come into.
+static SIZES: [(u32, u32); 12] = [
+    (0, 1),
+    (62, 1),
+    (63, 1),
+    (64, 1),
+    (65, 16),
+    (1_023, 16),
+    (1_024, 16),
+    (1_025, 64),
+    (4_095, 64),
+    (4_096, 64),
+    (4_097, 256),
+    (5_000, 256),
+];
 
 #[test]
 fn lines_of_all_sizes(rt: HostRuntime) -> Result<(), Fail> {
     let alloc = rt.alloc();
-    let small = [(0, 1), (62, 1), (63, 1), (64, 1)];
-    let medium = [(65, 16), (1_023, 16), (1_024, 16)];
-    let broad = [(1_025, 64), (4_095, 64), (4_096, 64)];
-    let large = [(4_097, 256), (5_000, 256)];
+    come(&rt, alloc, &SIZES)?;
     let mut sizes = Vec::new(alloc);
-    sizes.extend_from_slice(&small)?;
-    sizes.extend_from_slice(&medium)?;
-    sizes.extend_from_slice(&broad)?;
-    sizes.extend_from_slice(&large)?;
-    come(&rt, alloc, &sizes)?;
+    sizes.extend_from_slice(&SIZES)?;
     sizes.reverse();
     come(&rt, alloc, &sizes)
 }
 
-// The graph of the edge file comes into rows of so many words, and no other behind it.
-fn comes(rt: &impl Abort, alloc: Global, file: &str, wanted: (u32, u32, u32)) -> Result<(), Fail> {
-    let Ok(mut graphs) = Graphs::read(alloc, NAMES, Format::Dimacs, file.as_bytes()) else {
-        panic!(rt; "a fault");
-    };
-    let mut room = Room::new(alloc)?;
-    next_has(rt, alloc, &mut graphs, &mut room, wanted)?;
-    assert!(rt; !graphs.next_into(alloc, &mut room)?);
-    Ok(())
-}
+// Edge files, and the words a row, the vertices and the edges of their graphs.
+static EDGE_FILES: [(&str, (u32, u32, u32)); 9] = [
+    ("p edge 3 1\ne 1 2\n", (1, 3, 1)),
+    ("p edge 62 2\ne 62 1\ne 2 62\n", (1, 62, 2)),
+    ("p edge 63 2\ne 63 1\ne 2 63\n", (1, 63, 2)),
+    ("p edge 64 2\ne 64 1\ne 2 64\n", (16, 64, 2)),
+    ("p edge 1023 2\ne 1023 1\ne 2 1023\n", (16, 1_023, 2)),
+    ("p edge 1024 2\ne 1024 1\ne 2 1024\n", (64, 1_024, 2)),
+    ("p edge 4095 2\ne 4095 1\ne 2 4095\n", (64, 4_095, 2)),
+    ("p edge 4096 2\ne 4096 1\ne 2 4096\n", (256, 4_096, 2)),
+    ("p edge 16383 2\ne 16383 1\ne 2 16383\n", (256, 16_383, 2)),
+];
+
+// Limits of the number of vertices, and whether a graph on ten is within.
+static LIMITS: [(u32, bool); 5] = [
+    (9, false),
+    (10, false),
+    (11, true),
+    (64, true),
+    (4_096, true),
+];
 
 #[test]
 fn edge_files_of_all_sizes(rt: HostRuntime) -> Result<(), Fail> {
-    for (file, wanted) in [
-        ("p edge 3 1\ne 1 2\n", (1, 3, 1)),
-        ("p edge 62 2\ne 62 1\ne 2 62\n", (1, 62, 2)),
-        ("p edge 63 2\ne 63 1\ne 2 63\n", (1, 63, 2)),
-        ("p edge 64 2\ne 64 1\ne 2 64\n", (16, 64, 2)),
-        ("p edge 1023 2\ne 1023 1\ne 2 1023\n", (16, 1_023, 2)),
-        ("p edge 1024 2\ne 1024 1\ne 2 1024\n", (64, 1_024, 2)),
-        ("p edge 4095 2\ne 4095 1\ne 2 4095\n", (64, 4_095, 2)),
-        ("p edge 4096 2\ne 4096 1\ne 2 4096\n", (256, 4_096, 2)),
-        ("p edge 16383 2\ne 16383 1\ne 2 16383\n", (256, 16_383, 2)),
-    ] {
-        comes(&rt, rt.alloc(), file, wanted)?;
+    for (file, wanted) in &EDGE_FILES {
+        reads(&rt, rt.alloc(), Format::Dimacs, file.as_bytes(), &[*wanted])?;
     }
     let many = DimacsFault {
         kind: DimacsKind::TooManyVertices,
@@ -152,15 +172,9 @@ fn edge_files_of_all_sizes(rt: HostRuntime) -> Result<(), Fail> {
         b"p edge 16384 0\n",
         Fault::Dimacs(many),
     );
-    for (limit, wanted) in [
-        (9, false),
-        (10, false),
-        (11, true),
-        (64, true),
-        (4_096, true),
-    ] {
-        let read = Graphs::read(rt.alloc(), limit, Format::Dimacs, b"p edge 10 0\n");
-        assert!(&rt; read.is_ok() == wanted);
+    for (limit, wanted) in &LIMITS {
+        let read = Graphs::read(rt.alloc(), *limit, Format::Dimacs, b"p edge 10 0\n");
+        assert!(&rt; read.is_ok() == *wanted);
     }
     let loops = DimacsFault {
         kind: DimacsKind::Loop,
@@ -214,27 +228,37 @@ fn are_refused(
     assert!(rt; stop == InputStop::BadInput(fault));
 }
 
+// Scripts, the words a row that they take, and their edits.
+static SCRIPTS: [(&str, u32, u64); 8] = [
+    ("", 64, 0),
+    ("+e 0 1\n# none\n-v 1\n", 64, 2),
+    ("+e 4095 0\n", 64, 1),
+    ("-e 4095 4096\n", 256, 1),
+    ("-e 4096 0\n+v 1\n", 256, 2),
+    ("+v 9 4095\n", 64, 1),
+    ("+v 9 7 4096 8\n", 256, 1),
+    ("-v 16383\n", 256, 1),
+];
+
 #[test]
 fn inputs_of_sessions(rt: HostRuntime) -> Result<(), Fail> {
     let alloc = rt.alloc();
-    for (script, words, edits) in [
-        ("", 64, 0),
-        ("+e 0 1\n# none\n-v 1\n", 64, 2),
-        ("+e 4095 0\n", 64, 1),
-        ("-e 4095 4096\n", 256, 1),
-        ("-e 4096 0\n+v 1\n", 256, 2),
-        ("+v 9 4095\n", 64, 1),
-        ("+v 9 7 4096 8\n", 256, 1),
-        ("-v 16383\n", 256, 1),
-    ] {
-        are_read(&rt, alloc, Format::G6, b"Bw\n", script, (words, 3, edits));
+    for (script, words, edits) in &SCRIPTS {
+        are_read(
+            &rt,
+            alloc,
+            Format::G6,
+            b"Bw\n",
+            *script,
+            (*words, 3, *edits),
+        );
         are_read(
             &rt,
             alloc,
             Format::Dimacs,
             b"p edge 3 0\n",
-            script,
-            (words, 3, edits),
+            *script,
+            (*words, 3, *edits),
         );
     }
     for (n, words) in [(4_095, 64), (4_096, 64), (4_097, 256)] {

@@ -1,9 +1,9 @@
-//! Whole files: what is read from them, and the fault that is named.
+//! Whole digraph6 files: what is read from them, and the fault that is named.
 ghost use Rattle.std.specs.Prelude.{◌≡◌};
 ghost use Rattle.md_digraph.specs.PlainDigraph.{empty_digraph};
 
-use crate::{DigraphBySize, DirectedLines, DirectedRoom, scan_directed};
 use md_digraph::{Digraph, DigraphOf};
+use md_digraph6::{DigraphBySize, DirectedLines, DirectedRoom, scan_directed};
 use md_graph::Memory;
 use md_graph6::{G6Fault, G6Kind};
 use std::alloc::Global;
@@ -68,27 +68,31 @@ fn spells(rt: &impl Abort, graph: &mut Digraph, bytes: &[u8], digraphs: &[Wanted
     assert!(rt; !lines.next(graph));
 }
 
+// The files spell these directed graphs.
+fn all_spell(rt: &impl Abort, graph: &mut Digraph, files: &[(&[u8], &[Wanted])])
+    requires { graph.old ≡ empty_digraph }
+    ensures { graph.new ≡ empty_digraph }
+{
+    for (bytes, digraphs) in files {
+        spells(rt, graph, *bytes, *digraphs);
+    }
+}
+
 // The file has this first fault.
 fn refuses(rt: &impl Abort, bytes: &[u8], kind: G6Kind, line: u64) {
     assert_eq!(rt; scan_directed(bytes), Err(G6Fault { kind, line }));
 }
 
-#[test]
-fn files_spell(rt: HostRuntime) -> Result<(), Fail> {
-    let mut graph = Digraph::new(rt.alloc())?;
-    let g = &mut graph;
-    spells(&rt, g, b"", &[]);
-    spells(&rt, g, b">>digraph6<<", &[]);
-    spells(&rt, g, b"&?\n&@?\n", &[(0, &[]), (1, &[])]);
-    spells(
-        &rt,
-        g,
+// Files, and the directed graphs that they spell.
+static SPELLED: [(&[u8], &[Wanted]); 5] = [
+    (b"", &[]),
+    (b">>digraph6<<", &[]),
+    (b"&?\n&@?\n", &[(0, &[]), (1, &[])]),
+    (
         b">>digraph6<<&DI?AO?\r\n",
         &[(5, &[(0, 2), (0, 4), (3, 1), (3, 4)])],
-    );
-    spells(
-        &rt,
-        g,
+    ),
+    (
         b"&BP_\n&BCo\r\n\n&AG\n\r\n&AW",
         &[
             (3, &[(0, 1), (1, 2), (2, 0)]),
@@ -96,7 +100,13 @@ fn files_spell(rt: HostRuntime) -> Result<(), Fail> {
             (2, &[(1, 0)]),
             (2, &[(0, 1), (1, 0)]),
         ],
-    );
+    ),
+];
+
+#[test]
+fn files_spell(rt: HostRuntime) -> Result<(), Fail> {
+    let mut graph = Digraph::new(rt.alloc())?;
+    all_spell(&rt, &mut graph, &SPELLED);
     Ok(())
 }
 
@@ -125,21 +135,30 @@ fn is_taken(
     Ok(found && same)
 }
 
-#[test]
-fn rooms_of_all_widths(rt: HostRuntime) -> Result<(), Fail> {
-    let mut file = Vec::new(rt.alloc());
+// A file of directed graphs without arcs on 1, 65 and 1,025 vertices.
+fn file_of_all_widths(alloc: Global) -> Result<Vec<u8>, Fail> {
+    let mut file = Vec::new(alloc);
     file.extend_from_slice(b"&@?\n&~?@@")?;
     file.resize(714, b'?')?;
     file.extend_from_slice(b"\n&~?O@")?;
     file.resize(175_825, b'?')?;
+    Ok(file)
+}
+
+// The measures of the directed graphs of that file.
+static WIDTHS: [(u32, u32); 3] = [(1, 1), (65, 16), (1_025, 64)];
+
+#[test]
+fn rooms_of_all_widths(rt: HostRuntime) -> Result<(), Fail> {
+    let file = file_of_all_widths(rt.alloc())?;
     let Ok(_) = scan_directed(&file) else {
         panic!(&rt; "a fault");
     };
     let mut lines = DirectedLines::new(&file);
     let mut room = DirectedRoom::new(rt.alloc())?;
-    assert!(&rt; is_taken(rt.alloc(), &mut room, &mut lines, (1, 1))?);
-    assert!(&rt; is_taken(rt.alloc(), &mut room, &mut lines, (65, 16))?);
-    assert!(&rt; is_taken(rt.alloc(), &mut room, &mut lines, (1_025, 64))?);
+    for wanted in &WIDTHS {
+        assert!(&rt; is_taken(rt.alloc(), &mut room, &mut lines, *wanted)?);
+    }
     assert!(&rt; !room.fill(rt.alloc(), &mut lines)?);
     Ok(())
 }
@@ -159,50 +178,60 @@ fn empty_lines_are_passed_over(rt: HostRuntime) -> Result<(), Fail> {
     Ok(())
 }
 
-#[test]
-fn long_sizes_are_read(rt: HostRuntime) -> Result<(), Fail> {
-    let mut graph = Digraph::new(rt.alloc())?;
-    let mut file = Vec::new(rt.alloc());
-    file.extend_from_slice(b"&~??~?_")?;
-    file.resize(667, b'?')?;
-    spells(&rt, &mut graph, &file, &[(63, &[(0, 6)])]);
-    file.clear();
-    file.extend_from_slice(b"&~@??")?;
-    file.resize(2_796_207, b'?')?;
-    file.push(b'C')?;
-    refuses(&rt, &file, G6Kind::Loop, 1);
-    file.clear();
-    file.extend_from_slice(b"&~@??")?;
-    file.resize(2_796_207, b'?')?;
-    file.push(b'B')?;
-    refuses(&rt, &file, G6Kind::BadPadding, 1);
-    file.clear();
-    file.extend_from_slice(b"&~@??")?;
-    file.resize(2_796_207, b'?')?;
-    file.push(b'G')?;
-    spells(&rt, &mut graph, &file, &[(4096, &[(4095, 4094)])]);
-    Ok(())
+// The line of 4,096 vertices whose last byte is this one, and whose other bits are 0.
+fn longest_line(alloc: Global, last: u8) -> Result<Vec<u8>, Fail> {
+    let mut line = Vec::new(alloc);
+    line.extend_from_slice(b"&~@??")?;
+    line.resize(2_796_207, b'?')?;
+    line.push(last)?;
+    Ok(line)
 }
 
 #[test]
+fn long_sizes_are_read(rt: HostRuntime) -> Result<(), Fail> {
+    let alloc = rt.alloc();
+    let mut graph = Digraph::new(alloc)?;
+    let mut file = Vec::new(alloc);
+    file.extend_from_slice(b"&~??~?_")?;
+    file.resize(667, b'?')?;
+    spells(&rt, &mut graph, &file, &[(63, &[(0, 6)])]);
+    refuses(&rt, &longest_line(alloc, b'C')?, G6Kind::Loop, 1);
+    refuses(&rt, &longest_line(alloc, b'B')?, G6Kind::BadPadding, 1);
+    spells(
+        &rt,
+        &mut graph,
+        &longest_line(alloc, b'G')?,
+        &[(4096, &[(4095, 4094)])],
+    );
+    Ok(())
+}
+
+// Files, and their first faults.
+static REFUSED: [(&[u8], G6Kind, u64); 19] = [
+    (b"DQc\n", G6Kind::OtherFormat, 1),
+    (b"&?\n:A_\n", G6Kind::OtherFormat, 2),
+    (b">>digraph6<<>>digraph6<<&?\n", G6Kind::OtherFormat, 1),
+    (b"&\n", G6Kind::Truncated, 1),
+    (b"&>\n", G6Kind::BadByte, 1),
+    (b"&A!!\n", G6Kind::BadByte, 1),
+    (b"&~?\n", G6Kind::Truncated, 1),
+    (b"&~??}\n", G6Kind::BadSize, 1),
+    (b"&~~??????\n", G6Kind::BadSize, 1),
+    (b"&~@?@\n", G6Kind::TooManyVertices, 1),
+    (b"&~~~~~~~~\n", G6Kind::TooManyVertices, 1),
+    (b"&AG\n\n&B_\n", G6Kind::Truncated, 3),
+    (b"&@__\n", G6Kind::TrailingBytes, 1),
+    (b"&@_\n", G6Kind::Loop, 1),
+    (b"&@~\n", G6Kind::Loop, 1),
+    (b"&@^\n", G6Kind::BadPadding, 1),
+    (b"&AD\n", G6Kind::Loop, 1),
+    (b"&AC\n", G6Kind::Loop, 1),
+    (b"&AA\n", G6Kind::BadPadding, 1),
+];
+
+#[test]
 fn faults_are_named(rt: HostRuntime) {
-    refuses(&rt, b"DQc\n", G6Kind::OtherFormat, 1);
-    refuses(&rt, b"&?\n:A_\n", G6Kind::OtherFormat, 2);
-    refuses(&rt, b">>digraph6<<>>digraph6<<&?\n", G6Kind::OtherFormat, 1);
-    refuses(&rt, b"&\n", G6Kind::Truncated, 1);
-    refuses(&rt, b"&>\n", G6Kind::BadByte, 1);
-    refuses(&rt, b"&A!!\n", G6Kind::BadByte, 1);
-    refuses(&rt, b"&~?\n", G6Kind::Truncated, 1);
-    refuses(&rt, b"&~??}\n", G6Kind::BadSize, 1);
-    refuses(&rt, b"&~~??????\n", G6Kind::BadSize, 1);
-    refuses(&rt, b"&~@?@\n", G6Kind::TooManyVertices, 1);
-    refuses(&rt, b"&~~~~~~~~\n", G6Kind::TooManyVertices, 1);
-    refuses(&rt, b"&AG\n\n&B_\n", G6Kind::Truncated, 3);
-    refuses(&rt, b"&@__\n", G6Kind::TrailingBytes, 1);
-    refuses(&rt, b"&@_\n", G6Kind::Loop, 1);
-    refuses(&rt, b"&@~\n", G6Kind::Loop, 1);
-    refuses(&rt, b"&@^\n", G6Kind::BadPadding, 1);
-    refuses(&rt, b"&AD\n", G6Kind::Loop, 1);
-    refuses(&rt, b"&AC\n", G6Kind::Loop, 1);
-    refuses(&rt, b"&AA\n", G6Kind::BadPadding, 1);
+    for (bytes, kind, line) in &REFUSED {
+        refuses(&rt, *bytes, *kind, *line);
+    }
 }

@@ -1,10 +1,10 @@
-//! Texts of graphs: outside vectors, and graphs whose columns cross words.
+//! Texts of graphs in graph6: outside vectors, and graphs whose columns cross words.
 ghost use Rattle.std.specs.Prelude.{◌≡◌, ◌^◌, ◌<◌, None};
 ghost use Rattle.md_graph.specs.PlainGraph.{empty_graph};
 ghost use Rattle.md_graph6.specs.File.{first_fault};
 
-use crate::{Lines, scan, write};
 use md_graph::{Graph, GraphOf, NAMES};
+use md_graph6::{Lines, scan, write};
 use std::alloc::Global;
 use std::process::Abort;
 use std::test::Fail;
@@ -43,30 +43,31 @@ fn gives(
     Ok(())
 }
 
-#[test]
-fn texts_are_written(rt: HostRuntime) -> Result<(), Fail> {
-    let alloc = rt.alloc();
-    gives(&rt, alloc, &[], &[], b"?\n")?;
-    gives(&rt, alloc, &[7], &[], b"@\n")?;
-    gives(&rt, alloc, &[0, 1], &[(0, 1)], b"A_\n")?;
-    gives(&rt, alloc, &[2, 5, 9], &[(2, 9)], b"BO\n")?;
-    gives(&rt, alloc, &[1, 2, 3], &[(1, 2), (2, 3)], b"Bg\n")?;
-    gives(
-        &rt,
-        alloc,
-        &[0, 1, 2, 3],
-        &[(0, 1), (1, 2), (2, 3)],
-        b"Ch\n",
-    )?;
-    gives(
-        &rt,
-        alloc,
+// Vertices, edges, and the text of their graph.
+static TEXTS: [(&[u32], &[(u32, u32)], &[u8]); 8] = [
+    (&[], &[], b"?\n"),
+    (&[7], &[], b"@\n"),
+    (&[0, 1], &[(0, 1)], b"A_\n"),
+    (&[2, 5, 9], &[(2, 9)], b"BO\n"),
+    (&[1, 2, 3], &[(1, 2), (2, 3)], b"Bg\n"),
+    (&[0, 1, 2, 3], &[(0, 1), (1, 2), (2, 3)], b"Ch\n"),
+    (
         &[0, 1, 2, 3, 4],
         &[(0, 2), (0, 4), (1, 3), (3, 4)],
         b"DQc\n",
-    )?;
-    let ring = [(0, 1), (1, 2), (2, 3), (3, 4), (4, 5), (0, 5)];
-    gives(&rt, alloc, &[0, 1, 2, 3, 4, 5], &ring, b"EhEG\n")?;
+    ),
+    (
+        &[0, 1, 2, 3, 4, 5],
+        &[(0, 1), (1, 2), (2, 3), (3, 4), (4, 5), (0, 5)],
+        b"EhEG\n",
+    ),
+];
+
+#[test]
+fn texts_are_written(rt: HostRuntime) -> Result<(), Fail> {
+    for (vertices, edges, text) in &TEXTS {
+        gives(&rt, rt.alloc(), *vertices, *edges, *text)?;
+    }
     Ok(())
 }
 

@@ -1,7 +1,7 @@
 use Rattle.std.proofs.Common.{arith, rules}
 use Rattle.md_graph.specs.declared.TheConstants.{NAMES}
 use Rattle.md_graph6.proofs.FirstLemmas.{first_below}
-use Rattle.md_graph6.proofs.writer.tests.comes_back_by_size.Goals as goal
+use Rattle.md_format_tests.proofs.graph6_texts.comes_back_by_size.Goals as goal
 
 pub new-lines-requires : goal.new-lines-requires
 new-lines-requires g c = (NAMES, omega arith, search rules)

@@ -1,5 +1,9 @@
 //! Texts, lines and numbers with what POSIX and the DIMACS format read in them.
-use super::*;
+use md_text::{
+    CHUNK_SIZE, Chunk, DIGITS, digits_piece, number, number_piece, one_field, piece_behind,
+    push_number, skip_byte, small_number, split_field, split_line, split_number, three_fields,
+    two_numbers, without_return,
+};
 use std::alloc::{AllocError, Global};
 use std::process::Abort;
 use std::test::Fail;
@@ -52,19 +56,21 @@ fn check_split_number(rt: &impl Abort, line: &[u8], n: Option<u64>, behind: &[u8
     assert_eq!(rt; rest, behind);
 }
 
+// Texts, and the small number at the front of each with what stands behind it.
+static FRONTS: [(&[u8], Option<(u32, &[u8])>); 9] = [
+    (b"0", Some((0, b""))),
+    (b"7,8", Some((7, b",8"))),
+    (b"4096)", Some((4096, b")"))),
+    (b"99999", Some((99999, b""))),
+    (b"100000", None),
+    (b"00", None),
+    (b"07", None),
+    (b"a1", None),
+    (b"", None),
+];
+
 fn check_fronts(rt: &impl Abort) {
-    let cases: [(&[u8], Option<(u32, &[u8])>); 9] = [
-        (b"0", Some((0, b""))),
-        (b"7,8", Some((7, b",8"))),
-        (b"4096)", Some((4096, b")"))),
-        (b"99999", Some((99999, b""))),
-        (b"100000", None),
-        (b"00", None),
-        (b"07", None),
-        (b"a1", None),
-        (b"", None),
-    ];
-    for (text, want) in &cases {
+    for (text, want) in &FRONTS {
         assert!(rt; small_number(*text) == *want);
     }
     let (tail, other): (&[u8], &[u8]) = (b"1)", b"1)");
@@ -106,6 +112,16 @@ fn chunks(rt: HostRuntime) -> Result<(), Fail> {
     Ok(())
 }
 
+// Numbers as they are written.
+static NUMBERS: [(u64, &[u8]); 6] = [
+    (0, b"0"),
+    (10, b"10"),
+    (4_095, b"4095"),
+    (100_005, b"100005"),
+    (999_999_999_999_999_999, b"999999999999999999"),
+    (u64::MAX, b"18446744073709551615"),
+];
+
 #[test]
 fn texts(rt: HostRuntime) -> Result<(), Fail> {
     check_lines(&rt, b"", &[]);
@@ -123,17 +139,9 @@ fn texts(rt: HostRuntime) -> Result<(), Fail> {
     check_fields(&rt, b"\te\t10  2\r ", &[b"e", b"10", b"2\r"]);
     check_counts(&rt);
     check_fronts(&rt);
-    check_number(&rt, rt.alloc(), 0, b"0")?;
-    check_number(&rt, rt.alloc(), 10, b"10")?;
-    check_number(&rt, rt.alloc(), 4_095, b"4095")?;
-    check_number(&rt, rt.alloc(), 100_005, b"100005")?;
-    check_number(
-        &rt,
-        rt.alloc(),
-        999_999_999_999_999_999,
-        b"999999999999999999",
-    )?;
-    check_number(&rt, rt.alloc(), u64::MAX, b"18446744073709551615")?;
+    for (n, digits) in &NUMBERS {
+        check_number(&rt, rt.alloc(), *n, *digits)?;
+    }
     assert_eq!(rt; number(b"000000000000000001"), Some(1));
     check_refused(
         &rt,
