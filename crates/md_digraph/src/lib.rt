@@ -9,8 +9,6 @@ mod digraph;
 pub mod laws;
 mod refinement;
 mod shared;
-#[cfg(test)]
-mod tests;
 
 pub use back_search::directed_back;
 pub use closure_search::{directed_closure, directed_closure_in, directed_grow};

@@ -14,5 +14,4 @@ pub mod MarkChanges
 pub mod AllFree
 pub mod Beside
 pub mod Marks
-pub mod Loose
 pub mod NextPlace

@@ -6,8 +6,6 @@ mod kinds;
 pub mod laws;
 mod lists;
 mod span;
-#[cfg(test)]
-mod tests;
 
 pub use kinds::PlaceKind;
 pub use lists::Lists;

@@ -9,8 +9,6 @@ mod module_search;
 mod paths_with_both;
 mod refinement;
 mod shared;
-#[cfg(test)]
-mod tests;
 
 pub use compact_set::{CompactSet, union_of};
 pub use component_search::{co_component, co_connected, component, connected};

@@ -4,7 +4,5 @@
 
 mod partition;
 mod places;
-#[cfg(test)]
-mod tests;
 
 pub use partition::Partition;
