@@ -5,9 +5,10 @@ use Rattle.std.proofs.lemmas.List.Elements.{All-nil, All-head, All-tail, All-app
 use Rattle.std.proofs.lemmas.List.Sorted.{IsPermutation-map, IsPermutation-reverse, length_permutation, All-permutation}
 use Rattle.std.specs.List.{All}
 use Rattle.std.specs.List.Sorted.{IsPermutation}
+use Rattle.md_lists.specs.declared.TheConstants.{PLACES}
 use Rattle.md_lists.specs.Links.{Links}
 use Rattle.md_tree.specs.declared.Kind.{Kind}
-use Rattle.md_tree.specs.Parts.{PlainPart, name, inner as inner_part}
+use Rattle.md_tree.specs.Parts.{PlainPart, name, inner as inner_part, parts_of}
 use Rattle.md_tree.specs.Trees.{PlainTree, leaf, node, count, row}
 use Rattle.md_tree.proofs.Folding.{count_row}
 use Rattle.md_outline.specs.declared.outline.OutlinePart.{OutlinePart}
@@ -15,8 +16,9 @@ use Rattle.md_outline.specs.declared.outline.OutlinePart.TheVariants.{Name, Node
 use Rattle.md_outline.specs.Outlines.{outline_of, row_outline}
 use Rattle.md_cotree.specs.declared.outline.Entry.{Entry}
 use Rattle.md_cotree.specs.Entries.{below_part, tree_over, entry_tree, entry_keyed, trees_after, table_trees, PartFits, FitsIn, AreEntryTrees, entry_least, first_least, IsNodeEntryPut, IsEntryPut, stack_outline, IsOutlineAt}
-use Rattle.md_cotree.specs.Orders.{tree_of, first_key, AreFalling, IsPutOver, IsPartPut, HasBelow, HasTree}
+use Rattle.md_cotree.specs.Orders.{part_at, tree_of, first_key, AreFalling, IsPutOver, IsPartPut, HasBelow, HasTree}
 use Rattle.md_cotree.specs.PlaceTrees.{PlaceTree, place_of, shape, Stands}
+use Rattle.md_cotree.proofs.Rooted.{node_parts}
 use Rattle.md_cotree.proofs.Stacked.{IsStacked, stack_one, stack_end}
 use Rattle.md_cotree.proofs.Sorting.{falling_top, over_some, rising_keyed}
 
@@ -210,6 +212,23 @@ module _ (table stack : List Entry) (so : AreEntryTrees (table_trees table) tabl
       )
   put_trees (inner_part k n ps) stack' table' has put = node_put k n has.1 stack' table' put
 
+-- each part adds an entry
+pub put_long : (table stack : List Entry) (p : PlainPart) (stack' table' : List Entry) → HasBelow p stack → IsEntryPut p stack table stack' table' →
+    length table' + length stack' ≡ length table + length stack + 1
+put_long table stack (name v) stack' table' has put =
+    let a = ap length put.0 in let b = length-append stack (record { least = v; part = Name v; first = 0 } ∷ []) in let e = ap length put.1 in omega arith
+put_long table stack (inner_part k n ps) stack' table' has put =
+    let few = has.1 in
+    let a = ap length put.put in
+    let b = length-append (take (length stack - n) stack) (record { least = first_least put.sorted; part = Node k n; first = length table } ∷ []) in
+    let c = length-take (length stack - n) stack in
+    let d = ap length put.laid in
+    let e = length-append table (reverse put.sorted) in
+    let f = length-reverse put.sorted in
+    let g = length_permutation (drop (length stack - n) stack) put.sorted put.moved in
+    let h = length-drop (length stack - n) stack in
+    omega arith
+
 -- ---- the outline, read off
 
 outline_both : (xs ys : List PlainTree) → row_outline (row (xs ++ ys)) ≡ row_outline (row xs) ++ row_outline (row ys)
@@ -308,3 +327,15 @@ told_outline l root table stack parts left none has stacked is =
       is ∙ ap (stack_outline trees) one.1 ∙ append-nil (outline_of (entry_tree trees one.0)),
       λ t stands at loose. stack_end (shape t) left (map (entry_keyed trees) stack) [] (entry_keyed trees one.0) none (ap (map (entry_keyed trees)) one.1) (stacked t stands at) loose,
     )
+
+-- there is an entry for each place that was gone through
+pub few_begin : (l : Links) (root : ℕ) (table stack : List Entry) (places : List ℕ) → table ≡ [] → stack ≡ [] → HasTree l root →
+    ((t : PlaceTree) → Stands l t → place_of t ≡ root → map (part_at l) places ≡ parts_of (shape t)) → length table + length stack + length places ≤ PLACES
+few_begin l root table stack places none empty has parts =
+    let a = ap length none in
+    let b = ap length empty in
+    let e = ap length (parts has.0 has.1 has.2) in
+    let f = length-map places (part_at l) in
+    let n = node_parts has.0 in
+    let low = has.3 in
+    omega arith

@@ -1,5 +1,5 @@
 //! The outline of the tree of a cotree, made on a stack of entries without a tree.
-ghost use Rattle.std.specs.Prelude.{◌≡◌, ◌<◌, ◌≤◌, ℕ, List, ◌++◌, length, IfOk};
+ghost use Rattle.std.specs.Prelude.{◌≡◌, ◌<◌, ◌≤◌, ◌^◌, ℕ, List, ◌++◌, length, IfOk};
 ghost use Rattle.md_graph.specs.PlainGraph.{PlainGraph, adjacent};
 ghost use Rattle.md_lists.specs.Links.{IsLive, AreLinks};
 ghost use Rattle.md_outline.specs.Outlines.{outline_option};
@@ -25,7 +25,7 @@ use std::sync::ledger::{Blank, Ledger};
 struct Entry {
     least: u32,
     part: OutlinePart<Kind>,
-    first: usize,
+    first: u32,
 }
 
 impl Cotree {
@@ -84,6 +84,7 @@ fn put_entry<L: Ledger>(
 ) -> Result<(), Memory>
     requires live { IsLive lists.now place }
     requires below { HasBelow (part_at lists.now place) stack.old.items }
+    requires room { length table.old.items < 2 ^ 32 }
     ensures { IfOk result (λ _. IsEntryPut (part_at lists.now place)
         stack.old.items table.old.items stack.new.items table.new.items) }
 {
@@ -118,13 +119,14 @@ fn put_node_entry(
 ) -> Result<(), Memory>
     requires some { 0 < count }
     requires count { count ≤ length stack.old.items }
+    requires room { length table.old.items < 2 ^ 32 }
     ensures { IfOk result (λ _. IsNodeEntryPut kind count
         stack.old.items table.old.items stack.new.items table.new.items) }
 {
     let below = stack.len() - count as usize;
     arrange_entries(stack, below);
     let least = stack[stack.len() - 1].least;
-    let first = table.len();
+    let first = table.len() as u32;
     table.extend_from_slice(&stack[below..])?;
     stack.truncate(below);
     stack.push(Entry {
@@ -174,8 +176,8 @@ fn push_entries_below(entry: Entry, table: &[Entry], waiting: &mut Vec<Entry>) -
     match entry.part {
         OutlinePart::Name(_) => Ok(()),
         OutlinePart::Node(_, count) => {
-            let end = entry.first + count as usize;
-            waiting.extend_from_slice(&table[entry.first..end])?;
+            let first = entry.first as usize;
+            waiting.extend_from_slice(&table[first..first + count as usize])?;
             Ok(())
         }
     }
