@@ -31,10 +31,10 @@ struct Entry {
 impl Cotree {
     ghost use Rattle.std.specs.Prelude.{Option};
 
-    /// The outline of the tree of strong modules of the graph that the cotree denotes, without parts
-    /// exactly where that has no vertices: each node before those below it, and children in ascending
-    /// order of their least names. No tree is built, and no call nests as deep as the tree. Condition:
-    /// the cotree is sound. Errors: want of memory.
+    /// The outline of the tree of strong modules of the graph that the cotree denotes, without
+    /// parts exactly where that has no vertices: each node before those below it, and children in
+    /// ascending order of their least names. No tree is built, and no call nests as deep as the
+    /// tree. Condition: the cotree is sound. Errors: want of memory.
     pub fn outline(&self, alloc: Global) -> Result<Vec<OutlinePart<Kind>>, Memory>
         requires sound { IsSoundCotree self.now }
         ensures outline { IfOk result (λ parts. (g : PlainGraph) → Denotes self.now g →
