@@ -18,5 +18,6 @@ pub mod Arranging
 pub mod Stacked
 pub mod Sorting
 pub mod Telling
+pub mod EntryTrees
 pub mod NodeCounts
 pub mod Degrees

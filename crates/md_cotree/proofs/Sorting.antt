@@ -14,7 +14,7 @@ use Rattle.md_tree.specs.Trees.{node, row}
 use Rattle.md_tree.specs.Plain.{plain}
 use Rattle.md_tree.proofs.Plain.{plain_is_leaf, plain-node}
 use Rattle.md_cotree.specs.declared.ordering.Keyed.{Keyed}
-use Rattle.md_cotree.specs.Orders.{part_of_kind, part_at, plain_keyed, tree_of, key_of, first_key, IsPutOver, IsPartPut, AreFalling, AreTaken}
+use Rattle.md_cotree.specs.Orders.{part_of_kind, part_at, PlainKeyed, plain_keyed, least_of, tree_of, key_of, first_key, IsPutOver, IsPartPut, AreFalling, AreTaken}
 
 -- ---- trees without their keys
 
@@ -26,9 +26,9 @@ trees_more now more seen k so push =
 
 -- ---- trees on the stack, the last ones from the greatest least name down
 
-pub falling : (below long : ℕ) (stack front back sorted new : List Keyed) → below ≤ length stack → long ≡ length stack → front ≡ take below stack → back ≡ drop below stack →
-    IsPermutation back sorted → IsNonDecreasingBy (λ (k : Keyed). k.least) sorted → new ≡ take long (front ++ reverse sorted ++ drop (length (front ++ reverse sorted)) stack) → AreFalling below stack new
-falling below long stack front back sorted new low is_long is_front is_back moved rising is = record {
+pub falling : {A : Type 0} (key : A → ℕ) (below long : ℕ) (stack front back sorted new : List A) → below ≤ length stack → long ≡ length stack → front ≡ take below stack → back ≡ drop below stack →
+    IsPermutation back sorted → IsNonDecreasingBy key sorted → new ≡ take long (front ++ reverse sorted ++ drop (length (front ++ reverse sorted)) stack) → AreFalling key below stack new
+falling key below long stack front back sorted new low is_long is_front is_back moved rising is = record {
   sorted = sorted;
   moved = subst (λ xs. IsPermutation xs sorted) is_back moved;
   rising = rising;
@@ -48,8 +48,8 @@ falling below long stack front back sorted new low is_long is_front is_back move
         let g = length-reverse sorted in
         omega arith
 
-pub falling_long : (below : ℕ) (stack fallen : List Keyed) → below ≤ length stack → AreFalling below stack fallen → length fallen ≡ length stack
-falling_long below stack fallen low is =
+pub falling_long : {A : Type 0} (key : A → ℕ) (below : ℕ) (stack fallen : List A) → below ≤ length stack → AreFalling key below stack fallen → length fallen ≡ length stack
+falling_long key below stack fallen low is =
     let a = ap length is.whole in
     let b = length-append (take below stack) (reverse is.sorted) in
     let c = length-take below stack in
@@ -57,6 +57,26 @@ falling_long below stack fallen low is =
     let e = length_permutation (drop below stack) is.sorted is.moved in
     let f = length-drop below stack in
     omega arith
+
+-- the last item has the least key
+pub falling_top : {A : Type 0} (key : A → ℕ) (below : ℕ) (stack fallen : List A) → below ≤ length stack → (is : AreFalling key below stack fallen) → 0 < length is.sorted →
+    (first : A) → first ≡ get_or fallen (length fallen - 1) first → first ≡ get_or is.sorted 0 first
+falling_top key below stack fallen low is some first last =
+    last ∙ ap (λ l. get_or l (length l - 1) first) is.whole
+    ∙ get_or-append_right (take below stack) (reverse is.sorted) below (length (take below stack ++ reverse is.sorted) - 1) first kept (omega (arith, all, some))
+    ∙ get_or-reverse is.sorted (length (take below stack ++ reverse is.sorted) - 1 - below) first (omega (arith, all, some))
+    ∙ ap (λ n. get_or is.sorted n first) (omega (arith, all, some))
+  where
+    kept : length (take below stack) ≡ below
+    kept = let e = length-take below stack in omega arith
+
+    all : length (take below stack ++ reverse is.sorted) ≡ below + length is.sorted
+    all = let e = length-append (take below stack) (reverse is.sorted) in let f = length-reverse is.sorted in let g = kept in omega arith
+
+-- of items that came into order there is one at least
+pub falling_some : {A : Type 0} (key : A → ℕ) (count below : ℕ) (stack fallen : List A) → below ≡ length stack - count → 0 < count → count ≤ length stack → AreFalling key below stack fallen →
+    0 < length fallen
+falling_some key count below stack fallen at some few is = let long = falling_long key below stack fallen (omega arith) is in omega arith
 
 -- ---- trees that leave the stack
 
@@ -90,13 +110,13 @@ leaf_is_put l place v old new kind push =
 
 -- ---- a node
 
-rising_plain : (ks : List Keyed) → IsNonDecreasingBy (λ (k : Keyed). k.least) ks → IsNonDecreasingBy key_of (map plain_keyed ks)
-rising_plain [] rising i j d le low = absurd (omega arith)
-rising_plain (k ∷ ks) rising i j d le low =
-    let long : length (map plain_keyed (k ∷ ks)) ≡ length (k ∷ ks) = length-map (k ∷ ks) plain_keyed in
-    let a : (get_or (map plain_keyed (k ∷ ks)) i d).least ≡ (get_or (k ∷ ks) i k).least = ap key_of (get_or-map plain_keyed (k ∷ ks) i k d (omega arith)) in
-    let b : (get_or (map plain_keyed (k ∷ ks)) j d).least ≡ (get_or (k ∷ ks) j k).least = ap key_of (get_or-map plain_keyed (k ∷ ks) j k d (omega arith)) in
-    let up : (get_or (k ∷ ks) i k).least ≤ (get_or (k ∷ ks) j k).least = rising i j k le (omega arith) in
+pub rising_keyed : {A : Type 0} (f : A → PlainKeyed) (ks : List A) → IsNonDecreasingBy (λ k. key_of (f k)) ks → IsNonDecreasingBy key_of (map f ks)
+rising_keyed f [] rising i j d le low = absurd (omega arith)
+rising_keyed f (k ∷ ks) rising i j d le low =
+    let long : length (map f (k ∷ ks)) ≡ length (k ∷ ks) = length-map (k ∷ ks) f in
+    let a : (get_or (map f (k ∷ ks)) i d).least ≡ (f (get_or (k ∷ ks) i k)).least = ap key_of (get_or-map f (k ∷ ks) i k d (omega arith)) in
+    let b : (get_or (map f (k ∷ ks)) j d).least ≡ (f (get_or (k ∷ ks) j k)).least = ap key_of (get_or-map f (k ∷ ks) j k d (omega arith)) in
+    let up : (f (get_or (k ∷ ks) i k)).least ≤ (f (get_or (k ∷ ks) j k)).least = rising i j k le (omega arith) in
     omega arith
 
 first_plain : (ks : List Keyed) (k : Keyed) → 0 < length ks → k ≡ get_or ks 0 k → k.least ≡ first_key (map plain_keyed ks)
@@ -104,7 +124,7 @@ first_plain [] k some is = absurd (omega arith)
 first_plain (x ∷ ks) k some is = ap (λ (z : Keyed). z.least) is
 
 -- one child at least
-pub over_some : (count below : ℕ) (stack children sorted : List Keyed) → below ≡ length stack - count → 0 < count → count ≤ length stack → children ≡ drop below stack → IsPermutation children sorted →
+pub over_some : {A : Type 0} (count below : ℕ) (stack children sorted : List A) → below ≡ length stack - count → 0 < count → count ≤ length stack → children ≡ drop below stack → IsPermutation children sorted →
     0 < length sorted
 over_some count below stack children sorted at some few is_children moved =
     let long = length_permutation children sorted moved in
@@ -123,7 +143,7 @@ module _ (kind : Kind) (count below : ℕ) (stack kept children sorted new : Lis
         moved =
             subst (λ xs. IsPermutation xs (map plain_keyed sorted)) (ap (map plain_keyed) is_children ∙ sym (drop-map plain_keyed below stack) ∙ ap (λ i. drop i (map plain_keyed stack)) where_at)
             (IsPermutation-map plain_keyed children sorted moved);
-        rising = rising_plain sorted rising;
+        rising = rising_keyed plain_keyed sorted rising;
         whole =
             ap (map plain_keyed) push ∙ map-append plain_keyed kept (record { least = first.least; tree = Node kind (roll-ChildrenOf _ _ (record { list = list })) edges } ∷ [])
             ∙ (λ i. (ap (map plain_keyed) is_kept ∙ sym (take-map plain_keyed below stack) ∙ ap (λ n. take n (map plain_keyed stack)) where_at) i
@@ -135,7 +155,7 @@ module _ (kind : Kind) (count below : ℕ) (stack kept children sorted new : Lis
 
 -- the trees were put in order, and have left the stack
 module _ (count below : ℕ) (stack fallen left : List Keyed) (list : Vec (TreeOf Kind Pair) Global) (at : below ≡ length stack - count) (some : 0 < count) (few : count ≤ length stack)
-    (is : AreFalling below stack fallen) (taken : AreTaken fallen left list.items) (long : length left ≡ below) where
+    (is : AreFalling least_of below stack fallen) (taken : AreTaken fallen left list.items) (long : length left ≡ below) where
   kept_long : length (take below stack) ≡ below
   kept_long = let e = length-take below stack in omega arith
 
@@ -145,18 +165,8 @@ module _ (count below : ℕ) (stack fallen left : List Keyed) (list : Vec (TreeO
   sorted_some : 0 < length is.sorted
   sorted_some = over_some count below stack (drop below stack) is.sorted at some few refl is.moved
 
-  last_first : (first : Keyed) → first ≡ get_or fallen (length fallen - 1) first → first ≡ get_or is.sorted 0 first
-  last_first first last =
-      last ∙ ap (λ l. get_or l (length l - 1) first) is.whole
-      ∙ get_or-append_right (take below stack) (reverse is.sorted) below (length (take below stack ++ reverse is.sorted) - 1) first kept_long (omega (arith, all, sorted_some))
-      ∙ get_or-reverse is.sorted (length (take below stack ++ reverse is.sorted) - 1 - below) first (omega (arith, all, sorted_some))
-      ∙ ap (λ n. get_or is.sorted n first) (omega (arith, all, sorted_some))
-    where
-      all : length (take below stack ++ reverse is.sorted) ≡ below + length is.sorted
-      all = let e = length-append (take below stack) (reverse is.sorted) in let f = length-reverse is.sorted in let g = kept_long in omega arith
-
   pub taken_is_put : (kind : Kind) (new : List Keyed) (first : Keyed) (edges : PairsOf Pair) → first ≡ get_or fallen (length fallen - 1) first → edges.list.items ≡ [] →
       new ≡ left ++ record { least = first.least; tree = Node kind (roll-ChildrenOf _ _ (record { list = list })) edges } ∷ [] → IsPutOver kind count (map plain_keyed stack) (map plain_keyed new)
   taken_is_put kind new first edges last none push =
-      over_is_put kind count below stack left (drop below stack) is.sorted new first list edges at parts.0 refl is.moved is.rising sorted_some (last_first first last)
+      over_is_put kind count below stack left (drop below stack) is.sorted new first list edges at parts.0 refl is.moved is.rising sorted_some (falling_top least_of below stack fallen (omega arith) is sorted_some first last)
       (taken.told ∙ ap (λ l. map tree_of (map plain_keyed l)) (ap reverse parts.1 ∙ reverse-reverse is.sorted)) none push

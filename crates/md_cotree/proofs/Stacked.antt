@@ -142,3 +142,6 @@ stack_end t parts zs front z none top so loose =
 pub stack_some : (t : PlainTree) (parts : List PlainPart) (zs : List PlainKeyed) → parts ≡ [] → zs ≡ [] → IsStacked t parts zs → ⊥
 stack_some t parts zs none empty so =
     subst (λ xs. AllMatch xs (t ∷ [])) empty (subst (AllMatch zs) (one_tree t so.trees (subst (λ ps. IsFolding (parts_of t) ps so.trees) none so.folding)) so.match)
+
+pub stack_one : (t : PlainTree) (parts : List PlainPart) (zs : List PlainKeyed) → parts ≡ [] → IsStacked t parts zs → length zs ≡ 1
+stack_one t parts zs none so = along_long Matches zs (t ∷ []) (subst (AllMatch zs) (one_tree t so.trees (subst (λ ps. IsFolding (parts_of t) ps so.trees) none so.folding)) so.match)

@@ -3,5 +3,6 @@ pub mod PlaceTrees
 pub mod Forests
 pub mod Climbs
 pub mod Orders
+pub mod Entries
 pub mod Cotrees
 pub mod CotreeLaws

@@ -62,6 +62,9 @@ pub record PlainKeyed : Type 0 where
 abbrev pub plain_keyed : Keyed → PlainKeyed
 plain_keyed k = record { least = k.least; tree = plain k.tree }
 
+abbrev pub least_of : Keyed → ℕ
+least_of k = k.least
+
 abbrev pub tree_of : PlainKeyed → PlainTree
 tree_of k = k.tree
 
@@ -80,11 +83,11 @@ pub record IsPutOver (k : Kind) (n : ℕ) (zs ws : List PlainKeyed) : Type 0 whe
   pub rising : IsNonDecreasingBy key_of sorted
   pub whole : ws ≡ take (length zs - n) zs ++ record { least = first_key sorted; tree = node k (row (map tree_of sorted)) [] } ∷ []
 
--- the trees from a place on come in descending order of their least names
-pub record AreFalling (below : ℕ) (zs ws : List Keyed) : Type 0 where
-  pub sorted : List Keyed
+-- the items from a place on come in descending order of their keys
+pub record AreFalling {A : Type 0} (key : A → ℕ) (below : ℕ) (zs ws : List A) : Type 0 where
+  pub sorted : List A
   pub moved : IsPermutation (drop below zs) sorted
-  pub rising : IsNonDecreasingBy (λ (k : Keyed). k.least) sorted
+  pub rising : IsNonDecreasingBy key sorted
   pub whole : ws ≡ take below zs ++ reverse sorted
 
 -- trees were taken off the end, the last first
@@ -99,6 +102,6 @@ IsPartPut (name v) zs ws = ws ≡ zs ++ record { least = v; tree = leaf v } ∷ 
 IsPartPut (inner_part k n ps) zs ws = IsPutOver k n zs ws
 
 -- the stack has the children of the part, one at least
-abbrev pub HasBelow : PlainPart → List PlainKeyed → Type 0
+abbrev pub HasBelow : {A : Type 0} → PlainPart → List A → Type 0
 HasBelow (name v) zs = ⊤
 HasBelow (inner_part k n ps) zs = (0 < n) × (n ≤ length zs)

@@ -5,6 +5,7 @@ mod adjacency;
 mod cotree;
 pub mod laws;
 mod ordering;
+mod outline;
 mod planting;
 
 pub use adjacency::parent_of;

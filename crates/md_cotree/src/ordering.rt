@@ -11,7 +11,7 @@ ghost use Rattle.md_tree.specs.Trees.{PlainTree};
 ghost use Rattle.md_tree.specs.WellFormed.{IsWellFormed, HasNoPrimeNode};
 ghost use Rattle.md_tree.specs.NoPrimes.{HasNoPrime};
 ghost use Rattle.md_cotree.specs.Cotrees.{IsSoundCotree, Denotes};
-ghost use Rattle.md_cotree.specs.Orders.{AllLive, part_at, PlainKeyed, plain_keyed, tree_of, HasTree, IsLoose, IsOrdered, IsPartPut, IsPutOver, AreFalling, AreTaken, HasBelow};
+ghost use Rattle.md_cotree.specs.Orders.{AllLive, part_at, PlainKeyed, plain_keyed, least_of, tree_of, HasTree, IsLoose, IsOrdered, IsPartPut, IsPutOver, AreFalling, AreTaken, HasBelow};
 ghost use Rattle.md_cotree.specs.PlaceTrees.{PlaceTree, place_of, node_count, shape, Stands};
 
 use crate::Cotree;
@@ -75,7 +75,7 @@ fn tree_at<L: Ledger>(alloc: Global, lists: &Lists, root: u32, blank: Blank) -> 
 
 // The places of the tree at a place: each before those below it, and the children from the last to
 // the first.
-fn places<L: Ledger>(
+pub(crate) fn places<L: Ledger>(
     alloc: Global,
     lists: &Lists,
     root: u32,
@@ -174,7 +174,7 @@ fn put_over(alloc: Global, kind: Kind, count: u32, stack: &mut Vec<Keyed>) -> Re
 // Puts the trees from `below` on in descending order of their least names, the least on top.
 fn arrange(stack: &mut Vec<Keyed>, below: usize)
     requires { below ≤ length stack.old.items }
-    ensures { AreFalling below stack.old.items stack.new.items }
+    ensures { AreFalling least_of below stack.old.items stack.new.items }
 {
     let (_, children) = stack.as_mut_slice().split_at_mut(below);
     children.sort_unstable_by_key(|child| child.least);

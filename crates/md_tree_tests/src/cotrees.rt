@@ -5,6 +5,7 @@ ghost use Rattle.md_tree.specs.WellFormed.{IsWellFormed};
 ghost use Rattle.md_tree.specs.NoPrimes.{HasNoPrime};
 ghost use Rattle.md_cotree.specs.Cotrees.{Denotes};
 
+use crate::outlines::outline_by_tree;
 use md_cotree::{Cotree, from_tree};
 use md_graph::{Graph, NAMES};
 use md_text::push_number;
@@ -24,13 +25,16 @@ fn read(rt: &impl Abort, alloc: Global, bytes: &[u8]) -> Option<Tree>
     tree
 }
 
-// Sees that the cotree of the tree with this text gives the tree back.
+// Sees that the cotree of the tree with this text gives the tree back, and its outline.
 fn there_and_back(rt: &impl Abort, alloc: Global, bytes: &[u8]) -> Result<(), Fail> {
     let tree = read(rt, alloc, bytes);
     let cotree = from_tree(alloc, &tree)?;
     let back = cotree.to_tree(alloc)?;
     let written = text(alloc, &back)?;
     assert!(rt; written.as_slice() == bytes);
+    let outline = cotree.outline(alloc)?;
+    let expected = outline_by_tree(alloc, &back)?;
+    assert_eq!(rt; outline.as_slice(), expected.as_slice());
     Ok(())
 }
 

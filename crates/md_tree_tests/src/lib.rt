@@ -17,6 +17,8 @@ mod edit_histories;
 #[cfg(test)]
 mod local_changes;
 #[cfg(test)]
+mod outlines;
+#[cfg(test)]
 mod tree_reading;
 #[cfg(test)]
 mod tree_texts;

@@ -4,11 +4,11 @@
 ghost use Rattle.md_graph.specs.Sets.{Within};
 
 use super::{is_same_set, join};
+use crate::outlines::outline_by_tree;
 use md_decompose::{decompose, graph_outline};
 use md_graph::{Graph, Memory, NAMES, Names};
 use md_modules::{closure_in, co_component, component};
-use md_outline::OutlinePart;
-use md_tree::{Kind, Tree, text};
+use md_tree::{Kind, text};
 use std::alloc::Global;
 use std::process::Abort;
 use std::test::Fail;
@@ -289,41 +289,6 @@ fn slow_text(rt: &impl Abort, alloc: Global, graph: &Graph) -> Result<String, Me
         put(rt, alloc, graph, &piece, &mut waiting, &mut written)?;
     }
     Ok(written)
-}
-
-// A node of a tree comes behind the parts so far, and its children wait, the first one at the end.
-fn put_node<'a>(
-    node: &'a Tree,
-    parts: &mut Vec<OutlinePart<Kind>>,
-    waiting: &mut Vec<&'a Tree>,
-) -> Result<(), Memory> {
-    match node {
-        Tree::Leaf(name) => parts.push(OutlinePart::Name(*name))?,
-        Tree::Node(kind, children, _) => {
-            let count = u32::try_from(children.list.len()).unwrap_or(0);
-            parts.push(OutlinePart::Node(*kind, count))?;
-            for child in children.list.iter().rev() {
-                waiting.push(child)?;
-            }
-        }
-    }
-    Ok(())
-}
-
-// The outline that a tree has.
-fn outline_by_tree(alloc: Global, tree: &Option<Tree>) -> Result<Vec<OutlinePart<Kind>>, Memory> {
-    let mut parts = Vec::new(alloc);
-    let mut waiting = Vec::new(alloc);
-    if let Some(root) = tree {
-        waiting.push(root)?;
-    }
-    for _ in 0..8 * NAMES {
-        let Some(node) = waiting.pop() else {
-            return Ok(parts);
-        };
-        put_node(node, &mut parts, &mut waiting)?;
-    }
-    Ok(parts)
 }
 
 // Sees that both programs take a graph apart in the same way, and that its outline is that of its

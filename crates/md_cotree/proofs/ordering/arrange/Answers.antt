@@ -1,13 +1,13 @@
 use Rattle.std.proofs.Common.{◌∙◌, ap, take, drop, ◌++◌, length, rules}
 use Rattle.std.proofs.lemmas.List.Sorted.{IsNonDecreasingBy-from_sort_by_key}
-use Rattle.md_cotree.specs.declared.ordering.Keyed.{Keyed}
+use Rattle.md_cotree.specs.Orders.{least_of}
 use Rattle.md_cotree.proofs.Sorting.{falling}
 use Rattle.md_cotree.proofs.ordering.arrange.Goals as goal
 
 pub returns : goal.returns
 returns c =
-    falling c.args.below _ c.args.stack.now.items c.split_at_mut-children.result.0.now c.split_at_mut-children.result.1.now
+    falling least_of c.args.below _ c.args.stack.now.items c.split_at_mut-children.result.0.now c.split_at_mut-children.result.1.now
     c.sort_unstable_by_key.new.self _ c.requires c.args.stack.now.ok.0 (c.split_at_mut-children.ensures.front ∙ ap (take c.args.below) c.as_mut_slice.ensures.value)
     (c.split_at_mut-children.ensures.back ∙ ap (drop c.args.below) c.as_mut_slice.ensures.value) c.sort_unstable_by_key.ensures.permutation
-    (IsNonDecreasingBy-from_sort_by_key (λ (k : Keyed). k.least) _ c.sort_unstable_by_key.ensures.sorted (λ a r q k. search rules))
+    (IsNonDecreasingBy-from_sort_by_key least_of _ c.sort_unstable_by_key.ensures.sorted (λ a r q k. search rules))
     (ap (λ l. take c.args.stack.now.len (c.split_at_mut-children.result.0.now ++ l ++ drop (length (c.split_at_mut-children.result.0.now ++ l)) c.args.stack.now.items)) c.reverse.ensures.after)

@@ -1,25 +1,17 @@
 use Rattle.std.proofs.Common.{◌-◌, ◌∙◌, ap, get_or, arith}
-use Rattle.md_cotree.proofs.Sorting.{falling_long, taken_is_put}
+use Rattle.md_cotree.specs.Orders.{least_of}
+use Rattle.md_cotree.proofs.Sorting.{falling_some, taken_is_put}
 use Rattle.md_cotree.proofs.ordering.put_over.Goals as goal
 
 pub overflow_sub-len : goal.overflow_sub-len
 overflow_sub-len c =
-    let at = c.len.ensures ∙ c.args.stack.now.ok.0 in
-    let long = falling_long (c.len.result - c.args.count) c.args.stack.now.items c.arrange.new.stack.items (omega arith) c.arrange.ensures in
+    let at = ap (λ n. n - c.args.count) (c.len.ensures ∙ c.args.stack.now.ok.0) in
+    let some = falling_some least_of c.args.count (c.len.result - c.args.count) c.args.stack.now.items c.arrange.new.stack.items at c.requires.some c.requires.count c.arrange.ensures in
     let len = c.len-2.ensures ∙ c.arrange.new.stack.ok.0 in
-    let some = c.requires.some in
-    let few = c.requires.count in
     omega arith
 
 pub index-requires : goal.index-requires
-index-requires c =
-    let at = c.len.ensures ∙ c.args.stack.now.ok.0 in
-    let long = falling_long (c.len.result - c.args.count) c.args.stack.now.items c.arrange.new.stack.items (omega arith) c.arrange.ensures in
-    let len = c.len-2.ensures in
-    let all = c.arrange.new.stack.ok.0 in
-    let some = c.requires.some in
-    let few = c.requires.count in
-    omega arith
+index-requires c = let len = c.len-2.ensures in let some = overflow_sub-len c in omega arith
 
 pub returns : goal.returns
 returns c =
