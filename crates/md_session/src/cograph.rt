@@ -3,7 +3,6 @@ ghost use Rattle.std.specs.Prelude.{◌≡◌, ◌+◌, ◌*◌, ◌≤◌, Bool
 ghost use Rattle.std.specs.FinSet as set;
 ghost use Rattle.md_graph.specs.PlainGraph.{PlainGraph, adjacent};
 ghost use Rattle.md_modules.specs.InducedPaths.{HasInducedPath};
-ghost use Rattle.md_outline.specs.Outlines.{outline_option};
 ghost use Rattle.md_tree.specs.StrongTrees.{IsTree};
 ghost use Rattle.md_tree.specs.Trees.{PlainTree, nodes_in};
 ghost use Rattle.md_tree.specs.Plain.{plain_option};
@@ -25,9 +24,8 @@ use md_cotree::{Cotree, from_tree};
 use md_decompose::decompose;
 use md_graph::{GraphOf, Memory, Steps, WORDS};
 use md_modules::P4;
-use md_outline::OutlinePart;
 use md_script::{Edit, EditReason, HistoryOf, Item, inverse, reason, take_back};
-use md_tree::{Kind, Tree, has_no_prime};
+use md_tree::{Tree, has_no_prime};
 use std::alloc::Global;
 use std::marker::Model;
 use std::sync::ledger::Ledger;
@@ -112,23 +110,6 @@ impl<const W: usize> CographSessionOf<W> {
             IsTree (adjacent self.now) self.now.vertices (plain_option tree)) }
     {
         self.tree.to_tree(alloc)
-    }
-
-    /// The outline of that tree, without parts exactly where the graph has no vertices: children in
-    /// ascending order of their least names. No tree is built. Errors: want of memory.
-    pub fn outline(&self, alloc: Global) -> Result<Vec<OutlinePart<Kind>>, Memory>
-        ensures outline { IfOk result (λ parts. (t : Option PlainTree)
-            × IsTree (adjacent self.now) self.now.vertices t
-            × (parts.items ≡ outline_option t)) }
-    {
-        self.tree.outline(alloc)
-    }
-
-    /// The graph.
-    pub fn graph(&self) -> &GraphOf<W>
-        ensures value { result.now ≡ self.now }
-    {
-        &self.graph
     }
 
     /// The cotree of the graph.

@@ -11,4 +11,3 @@ pub mod Status
 pub mod Promise
 pub mod Laws
 pub mod CographModes
-pub mod ItemTexts

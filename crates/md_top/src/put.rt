@@ -2,7 +2,6 @@
 ghost use Rattle.std.specs.Prelude.{◌≡◌, ◌≤◌, IfOk};
 ghost use Rattle.md_report.specs.Lines.{PlainLine, plain_line, fed_line, line_text};
 ghost use Rattle.md_report.specs.Places.{Place, MayCome, next_place};
-ghost use Rattle.md_top.specs.ItemTexts.{IsItemText};
 ghost use Rattle.md_top.specs.Sinks.{sink_run, PutsWhole, PutsLines};
 
 use crate::stop::PutStop;
@@ -26,6 +25,10 @@ pub fn put_report_line<O: Sink>(alloc: Global, line: Line, out: &mut O) -> Resul
         → PutsLines p (next_place p (plain_line line)) result (sink_run O.Sink out.old out.new) }
     ensures faults_never_fall { O.faults out.old ≤ O.faults out.new }
 {
+    // In a quiet session most lines are this one, and it takes no memory.
+    if let Line::AppliedQuiet = line {
+        return put_piece(out, b"ok\n");
+    }
     let text = fed_text(alloc, &line)?;
     put_piece(out, &text)
 }
@@ -37,18 +40,6 @@ pub fn put_text<O: Sink>(text: &[u8], out: &mut O) -> Result<(), PutStop>
     ensures faults_never_fall { O.faults out.old ≤ O.faults out.new }
 {
     put_piece(out, text)
-}
-
-/// Puts the text of the line of an item, with its line feed; without a text the line `ok` alone.
-pub fn put_item_text<O: Sink>(text: &Option<Vec<u8>>, out: &mut O) -> Result<(), PutStop>
-    ensures puts { (p : Place) (line : PlainLine) → IsItemText text.now line → MayCome p line
-        → PutsLines p (next_place p line) result (sink_run O.Sink out.old out.new) }
-    ensures faults_never_fall { O.faults out.old ≤ O.faults out.new }
-{
-    match text {
-        Some(whole) => put_text(whole, out),
-        None => put_piece(out, b"ok\n"),
-    }
 }
 
 /// The text of a line of a report, with its line feed.
