@@ -18,6 +18,7 @@ use Rattle.md_cotree.specs.declared.outline.Entry.{Entry}
 use Rattle.md_cotree.specs.Entries.{below_part, tree_over, entry_tree, entry_keyed, trees_after, table_trees, PartFits, FitsIn, AreEntryTrees, entry_least, first_least, IsNodeEntryPut, IsEntryPut, stack_outline, IsOutlineAt}
 use Rattle.md_cotree.specs.Orders.{part_at, tree_of, first_key, AreFalling, IsPutOver, IsPartPut, HasBelow, HasTree}
 use Rattle.md_cotree.specs.PlaceTrees.{PlaceTree, place_of, shape, Stands}
+use Rattle.md_cotree.proofs.OutlineTrees.{outline_both}
 use Rattle.md_cotree.proofs.Rooted.{node_parts}
 use Rattle.md_cotree.proofs.Stacked.{IsStacked, stack_one, stack_end}
 use Rattle.md_cotree.proofs.Sorting.{falling_top, over_some, rising_keyed}
@@ -230,10 +231,6 @@ put_long table stack (inner_part k n ps) stack' table' has put =
     omega arith
 
 -- ---- the outline, read off
-
-outline_both : (xs ys : List PlainTree) → row_outline (row (xs ++ ys)) ≡ row_outline (row xs) ++ row_outline (row ys)
-outline_both [] ys = refl
-outline_both (x ∷ xs) ys = ap (λ ps. outline_of x ++ ps) (outline_both xs ys) ∙ sym (append_assoc (outline_of x) (row_outline (row xs)) (row_outline (row ys)))
 
 -- the parts so far and the outlines of what waits are the whole
 pub record IsReadOff (trees : List PlainTree) (table : List Entry) (whole parts : List (OutlinePart Kind)) (waiting : List Entry) : Type 0 where

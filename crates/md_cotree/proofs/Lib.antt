@@ -9,7 +9,10 @@ pub mod Frames
 pub mod Attaching
 pub mod Growing
 pub mod Naming
+pub mod OutlineTrees
 pub mod Rooted
+pub mod Planted
+pub mod TreeOutlines
 pub mod Ways
 pub mod Meeting
 pub mod Leaves

@@ -1,5 +1,6 @@
 pub mod Laws
 pub mod PlaceTrees
+pub mod OutlineParts
 pub mod Forests
 pub mod Climbs
 pub mod Orders
