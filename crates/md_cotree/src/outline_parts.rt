@@ -1,4 +1,4 @@
-//! Outlines of trees, and whether one has a prime node.
+//! Outlines of trees, and whether one has a prime node. Nothing here speaks of cotrees.
 ghost use Rattle.std.specs.Prelude.{◌≡◌, ◌<◌, ◌^◌, ◌++◌, ◌∷◌, [], ◌↔◌, map, reverse, length, IfOk, IsTrue};
 ghost use Rattle.std.specs.List.{All};
 ghost use Rattle.md_tree.specs.Plain.{plain, trees_of};
@@ -44,13 +44,13 @@ pub(crate) fn tree_outline(alloc: Global, tree: &Tree) -> Result<Vec<OutlinePart
     let mut waiting = Vec::new(alloc);
     waiting.push(tree)?;
     while let Some(node) = waiting.pop() {
-        push_part(node, &mut parts, &mut waiting)?;
+        push_node(node, &mut parts, &mut waiting)?;
     }
     Ok(parts)
 }
 
 // The part of a node comes behind the parts so far, and its children wait, the first one at the end.
-fn push_part<'a>(
+fn push_node<'a>(
     node: &'a Tree,
     parts: &mut Vec<OutlinePart<Kind>>,
     waiting: &mut Vec<&'a Tree>,
@@ -68,13 +68,16 @@ fn push_part<'a>(
         }
         Tree::Node(kind, children, _) => {
             parts.push(OutlinePart::Node(*kind, children.len() as u32))?;
-            push_backward(children, waiting)
+            push_children_backward(children, waiting)
         }
     }
 }
 
 // Appends the children of a node, from the last to the first.
-fn push_backward<'a>(children: &'a Children, waiting: &mut Vec<&'a Tree>) -> Result<(), Memory>
+fn push_children_backward<'a>(
+    children: &'a Children,
+    waiting: &mut Vec<&'a Tree>,
+) -> Result<(), Memory>
     ensures { IfOk result (λ _. map plain_at waiting.new.items
         ≡ map plain_at waiting.old.items ++ reverse (map plain (trees_of children.now))) }
 {
