@@ -35,7 +35,8 @@ fn is_no_prime(part: OutlinePart<Kind>) -> bool
     }
 }
 
-// The outline of a tree. No call nests as deep as the tree. Condition: it has fewer than 2^32 parts.
+// The outline of a tree. No call nests as deep as the tree. Condition: it has fewer than 2^32
+// parts.
 pub(crate) fn tree_outline(alloc: Global, tree: &Tree) -> Result<Vec<OutlinePart<Kind>>, Memory>
     requires { length (outline_of (plain tree.now)) < 2 ^ 32 }
     ensures { IfOk result (λ parts. parts.items ≡ outline_of (plain tree.now)) }
@@ -49,7 +50,8 @@ pub(crate) fn tree_outline(alloc: Global, tree: &Tree) -> Result<Vec<OutlinePart
     Ok(parts)
 }
 
-// The part of a node comes behind the parts so far, and its children wait, the first one at the end.
+// The part of a node comes behind the parts so far, and its children wait, the first one at the
+// end.
 fn push_node<'a>(
     node: &'a Tree,
     parts: &mut Vec<OutlinePart<Kind>>,

@@ -36,8 +36,8 @@ pub fn from_tree(alloc: Global, tree: &Option<Tree>) -> Result<Cotree, Memory>
     }
 }
 
-/// The cotree of the tree with this outline. Condition: the outline is that of a well-formed tree in
-/// which no node is prime. Errors: want of memory.
+/// The cotree of the tree with this outline. Condition: the outline is that of a well-formed tree
+/// in which no node is prime. Errors: want of memory.
 pub fn from_outline(alloc: Global, parts: &[OutlinePart<Kind>]) -> Result<Cotree, Memory>
     requires tree { (t : Option PlainTree) × IsWellFormed t × HasNoPrime t
         × (parts.now ≡ outline_option t) }
