@@ -2,6 +2,7 @@
 //! under edits.
 #![tactic(auto)]
 
+mod few_inner;
 mod items;
 mod session;
 mod undoing;
