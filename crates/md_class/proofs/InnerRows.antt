@@ -1,32 +1,21 @@
 -- One part more of an outline, in which the inner children of each node are counted.
-use Rattle.std.proofs.Common.{◌≡◌, ◌↔◌, ℕ, suc, true, false, List, [], ◌∷◌, ◌++◌, length, Option, Some, None, append_assoc, append-nil, refl, sym, ◌∙◌, ap, ap₂, subst, arith, length-append}
+use Rattle.std.proofs.Common.{◌≡◌, ◌↔◌, ℕ, suc, true, List, [], ◌∷◌, ◌++◌, length, Option, Some, None, append_assoc, append-nil, refl, sym, ◌∙◌, ap, subst, arith}
+use Rattle.std.proofs.lemmas.List.{same_from_push}
 use Rattle.md_tree.specs.declared.Kind.{Kind}
 use Rattle.md_tree.specs.Trees.{PlainTree, leaf, node, PlainTrees, no_tree, one_more, count}
+use Rattle.md_tree.proofs.Leaving.{no_snoc}
 use Rattle.md_outline.specs.declared.outline.OutlinePart.{OutlinePart}
 use Rattle.md_outline.specs.declared.outline.OutlinePart.TheVariants.{Name, Node}
 use Rattle.md_outline.specs.Outlines.{outline_of, row_outline, outline_option}
 use Rattle.md_bar_tree.specs.declared.Class.{Class}
-use Rattle.md_bar_tree.specs.Inner.{IsInnerTree, AreLeaves, HasOneInner, IsNarrow, HasFewInner, HaveFewInner, HasFewInnerIn}
+use Rattle.md_bar_tree.specs.Inner.{IsInnerTree, HasOneInner, IsNarrow, HasFewInner, HaveFewInner, HasFewInnerIn}
 use Rattle.md_bar_tree.proofs.BarLaw.{one_of_leaves}
 use Rattle.md_class.specs.declared.few_inner.InnerRoom.{InnerRoom}
 use Rattle.md_class.specs.declared.few_inner.InnerRoom.TheVariants.{Any, One, NoMore}
 use Rattle.md_class.specs.declared.few_inner.Row.{Row}
 use Rattle.md_class.specs.InnerRows.{MayBe, MayBeIn, ComingRow, kept_row, kept_rows, with_row, rows_left, HaveRoom, AreComing}
 
--- ---- the end of a list
-
-no_end : {X : Type 0} (xs : List X) (x : X) → [] ≡ xs ++ x ∷ [] → ⊥
-no_end xs x e = let l : 0 ≡ length (xs ++ x ∷ []) = ap length e in omega (arith, length-append xs (x ∷ []))
-
-same_end : {X : Type 0} (xs ys : List X) (x y : X) → xs ++ x ∷ [] ≡ ys ++ y ∷ [] → (xs ≡ ys) × (x ≡ y)
-same_end [] [] x y e = let f : x ≡ y = cc in (refl, f)
-same_end [] (b ∷ ys) x y e = let f : [] ≡ ys ++ y ∷ [] = cc in absurd (no_end ys y f)
-same_end (a ∷ xs) [] x y e = let f : xs ++ x ∷ [] ≡ [] = cc in absurd (no_end xs x (sym f))
-same_end (a ∷ xs) (b ∷ ys) x y e =
-    let f : xs ++ x ∷ [] ≡ ys ++ y ∷ [] = cc in
-    let g : a ≡ b = cc in
-    let r : (xs ≡ ys) × (x ≡ y) = same_end xs ys x y f in
-    (ap₂ (λ h l. h ∷ l) g r.0, r.1)
+-- ---- the end of an outline
 
 no_part : (part : OutlinePart Kind) (others : List (OutlinePart Kind)) → part ∷ others ≡ [] → ⊥
 no_part part others f = let l : suc (length others) ≡ 0 = ap length f in omega arith
@@ -76,7 +65,7 @@ module _ (class : Class) (t : PlainTree) (others : List (OutlinePart Kind)) (kep
     where
       by_rows : (rows : List ComingRow) → kept ≡ kept_rows rows → part ∷ others ≡ rows_left rows → ⊥
       by_rows [] kept_are parts_are = no_part part others parts_are
-      by_rows (r ∷ rs) kept_are parts_are = no_end (kept_rows rs) (kept_row r) (sym none ∙ kept_are)
+      by_rows (r ∷ rs) kept_are parts_are = no_snoc (kept_rows rs) (kept_row r) (sym none ∙ kept_are)
 
   module _ (front : List Row) (row : Row) (cut : kept ≡ front ++ row ∷ []) where
     -- what the last row is
@@ -96,7 +85,7 @@ module _ (class : Class) (t : PlainTree) (others : List (OutlinePart Kind)) (kep
         by_rows : (rows : List ComingRow) → kept ≡ kept_rows rows → part ∷ others ≡ rows_left rows → HaveRoom class rows ↔ HasFewInner class t → IsLast part
         by_rows [] kept_are parts_are same = absurd (no_part part others parts_are)
         by_rows (r ∷ rs) kept_are parts_are same =
-            let ends : (front ≡ kept_rows rs) × (row ≡ kept_row r) = same_end front (kept_rows rs) row (kept_row r) (sym cut ∙ kept_are) in
+            let ends : (front ≡ kept_rows rs) × (row ≡ kept_row r) = same_from_push front (kept_rows rs) row (kept_row r) (sym cut ∙ kept_are) in
             record {
               room = r.room;
               next = r.next;

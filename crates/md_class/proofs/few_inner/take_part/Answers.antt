@@ -1,6 +1,5 @@
 use Rattle.std.proofs.Common.{◌∷◌, sym, ◌∙◌, subst}
 use Rattle.std.proofs.lemmas.List.{nil_from_length}
-use Rattle.md_outline.specs.declared.outline.OutlinePart.TheVariants.{Name, Node}
 use Rattle.md_class.specs.InnerRows.{AreComing}
 use Rattle.md_class.proofs.InnerRows.{none_kept, name_taken, node_taken, node_refused}
 use Rattle.md_class.proofs.few_inner.take_part.Goals as goal
