@@ -1,2 +1,3 @@
 mod ClassGraphs
 mod ClassItems
+mod InnerRows

@@ -1,3 +1,5 @@
 pub mod ClassAnswers
 pub mod ClassOpenings
 pub mod ClassSessions
+pub mod InnerRows
+pub mod ItemAnswers

@@ -2,8 +2,11 @@
 //! under edits.
 #![tactic(auto)]
 
+mod answers;
+mod few_inner;
 mod items;
 mod session;
 mod undoing;
 
+pub use answers::ClassAnswer;
 pub use session::{ClassOpened, ClassOpenedOf, ClassSession, ClassSessionOf};

@@ -19,12 +19,12 @@ ghost use Rattle.md_top.specs.CographModes.{cograph_mode};
 ghost use Rattle.md_top.specs.ItemTexts.{IsItemText};
 ghost use Rattle.md_top.specs.Sinks.{sink_run, PutsLines};
 
-use crate::put::{fed, fed_text, put_item_text, put_report_line, put_text};
+use crate::put::{applied_text_by_rows, fed, fed_text, put_item_text, put_report_line, put_text};
 use crate::stop::PutStop;
 use crate::undos::{forget_unreached, undos_behind};
 use md_graph::{GraphOf, Memory, Steps};
 use md_io::Sink;
-use md_outline::{RowSpace, push_text_by_rows};
+use md_outline::RowSpace;
 use md_report::{Line, write_tree_by_rows};
 use md_script::{HistoryOf, Item, Script};
 use md_session::{CographSessionOf, ItemAnswer, OpenedOf};
@@ -227,10 +227,7 @@ fn applied_tree_text<const W: usize>(
         × (text.items ≡ fed_line (lines.applied t))) }
 {
     let parts = session.outline(alloc)?;
-    let mut text = Vec::new(alloc);
-    text.extend_from_slice(b"ok ")?;
-    push_text_by_rows(&mut text, &parts, session.graph(), space)?;
-    fed(text)
+    applied_text_by_rows(alloc, &parts, session.graph(), space)
 }
 
 // The text of the line of the tree of the session, with its line feed.

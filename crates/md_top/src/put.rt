@@ -1,14 +1,21 @@
 //! Puts a piece of the output.
-ghost use Rattle.std.specs.Prelude.{◌≡◌, ◌≤◌, IfOk};
+ghost use Rattle.std.specs.Prelude.{◌≡◌, ◌≤◌, ◌*◌, Option, IfOk};
+ghost use Rattle.md_graph.specs.PlainGraph.{adjacent};
+ghost use Rattle.md_outline.specs.Outlines.{outline_option};
+ghost use Rattle.md_tree.specs.StrongTrees.{IsTree};
+ghost use Rattle.md_tree.specs.Trees.{PlainTree};
+ghost use Rattle.md_report.specs.Lines as lines;
 ghost use Rattle.md_report.specs.Lines.{PlainLine, plain_line, fed_line, line_text};
 ghost use Rattle.md_report.specs.Places.{Place, MayCome, next_place};
 ghost use Rattle.md_top.specs.ItemTexts.{IsItemText};
 ghost use Rattle.md_top.specs.Sinks.{sink_run, PutsWhole, PutsLines};
 
 use crate::stop::PutStop;
-use md_graph::Memory;
+use md_graph::{GraphOf, Memory};
 use md_io::Sink;
+use md_outline::{OutlinePart, RowSpace, push_text_by_rows};
 use md_report::{Line, write_line};
+use md_tree::Kind;
 use std::alloc::Global;
 
 /// Puts a piece to the output.
@@ -68,4 +75,24 @@ pub fn fed(text: Vec<u8>) -> Result<Vec<u8>, Memory>
     let mut whole = text;
     whole.push(b'\n')?;
     Ok(whole)
+}
+
+/// The text of the line that an item was applied and left the tree of a graph, from the outline of
+/// that tree, with its line feed. Condition: it is such an outline.
+pub fn applied_text_by_rows<const W: usize>(
+    alloc: Global,
+    parts: &[OutlinePart<Kind>],
+    graph: &GraphOf<W>,
+    space: &mut RowSpace,
+) -> Result<Vec<u8>, Memory>
+    requires { (t : Option PlainTree) × IsTree (adjacent graph.now) graph.now.vertices t
+        × (parts.now ≡ outline_option t) }
+    ensures { (t : Option PlainTree) → IsTree (adjacent graph.now) graph.now.vertices t
+        → parts.now ≡ outline_option t
+        → IfOk result (λ text. text.items ≡ fed_line (lines.applied t)) }
+{
+    let mut text = Vec::new(alloc);
+    text.extend_from_slice(b"ok ")?;
+    push_text_by_rows(&mut text, parts, graph, space)?;
+    fed(text)
 }

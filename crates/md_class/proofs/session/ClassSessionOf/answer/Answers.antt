@@ -5,8 +5,8 @@ use Rattle.md_script.specs.Histories.{HistoryFits}
 use Rattle.md_report.specs.Classes.{IsAllowedIn}
 use Rattle.md_class.specs.ClassSessions.{PlainClassSession}
 use Rattle.md_class.proofs.ClassGraphs.{fits_cographs}
-use Rattle.md_class.proofs.session.ClassSessionOf.apply_counting.Goals as goal
-use Rattle.md_class.proofs.session.ClassSessionOf.apply_counting.Goals.{in-One, in-Group, in-Undo}
+use Rattle.md_class.proofs.session.ClassSessionOf.answer.Goals as goal
+use Rattle.md_class.proofs.session.ClassSessionOf.answer.Goals.{in-One, in-Group, in-Undo}
 
 pub answer_one-requires : goal.answer_one-requires
 answer_one-requires g c = (
