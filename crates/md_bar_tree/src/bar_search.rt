@@ -54,8 +54,10 @@ fn bar_below(kind: Kind, children: &Children, class: Class) -> Option<Bar>
     ensures none { IfNone result (HaveFewInner class (row_of_children children.now)) }
 {
     for child in &children.list {
-        if let Some(bar) = bar_in(child, class) {
-            return Some(bar);
+        if is_inner(child) {
+            if let Some(bar) = bar_in(child, class) {
+                return Some(bar);
+            }
         }
     }
     None
