@@ -56,9 +56,10 @@ pub(crate) fn path_bar(p: P4) -> Bar
     }
 }
 
-// Answers an edit alone, and tells the tree behind it whole or by its outline. Conditions: the graph is of the class and the cotree its own, there is
-// room for an item and an edit, and for a list of neighbours, the history fits, and the names in
-// the edit are below `64 * W`. Errors: want of memory; graph and history then stay.
+// Answers an edit alone, and tells the tree behind it whole or by its outline. Conditions: the
+// graph is of the class and the cotree its own, there is room for an item and an edit, and for a
+// list of neighbours, the history fits, and the names in the edit are below `64 * W`. Errors: want
+// of memory; graph and history then stay.
 pub(crate) fn answer_one<const W: usize, L: Ledger>(
     alloc: Global,
     graph: &mut GraphOf<W>,
@@ -103,9 +104,10 @@ pub(crate) fn answer_one<const W: usize, L: Ledger>(
     }
 }
 
-// Answers a group, and tells the tree behind it whole or by its outline. Conditions: the graph is of the class and the cotree its own, there is room for
-// an item and the edits, and for a list of neighbours, the history fits, and the names in the edits
-// are below `64 * W`. Errors: want of memory; graph and history then stay.
+// Answers a group, and tells the tree behind it whole or by its outline. Conditions: the graph is
+// of the class and the cotree its own, there is room for an item and the edits, and for a list of
+// neighbours, the history fits, and the names in the edits are below `64 * W`. Errors: want of
+// memory; graph and history then stay.
 pub(crate) fn answer_group<const W: usize, L: Ledger>(
     alloc: Global,
     graph: &mut GraphOf<W>,
@@ -203,10 +205,9 @@ fn apply_edits<const W: usize, L: Ledger>(
 }
 
 // Answers an edit, and pushes what takes it back to the last item of a history; the tree behind it
-// is told whole or by its outline. Conditions: the
-// graph is of the class and the cotree its own, an item stands, there is room for an edit, and for
-// a list of neighbours, and the names in the edit are below `64 * W`. Errors: want of memory; graph
-// and history then stay.
+// is told whole or by its outline. Conditions: the graph is of the class and the cotree its own, an
+// item stands, there is room for an edit, and for a list of neighbours, and the names in the edit
+// are below `64 * W`. Errors: want of memory; graph and history then stay.
 fn step<const W: usize, L: Ledger>(
     alloc: Global,
     graph: &mut GraphOf<W>,

@@ -154,8 +154,8 @@ impl<const W: usize> ClassSessionOf<W> {
         }
     }
 
-    /// The same for callers that write the line themselves: where the item is applied the answer has
-    /// the outline of the tree in place of it, and no tree is built unless a bar is looked for.
+    /// The same for callers that write the line themselves: where the item is applied the answer
+    /// has the outline of the tree in place of it, and no tree is built unless a bar is looked for.
     pub fn answer_item<L: Ledger>(
         &mut self,
         alloc: Global,
@@ -181,8 +181,8 @@ impl<const W: usize> ClassSessionOf<W> {
     }
 
     // Answers an item, and tells the tree behind it whole or by its outline. Conditions: the names
-    // in the item are below `64 * W`, the history has room for it, and fits. Errors: want of memory;
-    // session and history then stay.
+    // in the item are below `64 * W`, the history has room for it, and fits. Errors: want of
+    // memory; session and history then stay.
     fn answer<L: Ledger>(
         &mut self,
         alloc: Global,

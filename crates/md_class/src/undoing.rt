@@ -21,9 +21,8 @@ use std::alloc::Global;
 use std::sync::ledger::Ledger;
 
 // Answers an undo, which asks for no bar: the graph before is of the class. Its tree is told whole
-// or by its outline. Conditions: the cotree
-// is that of the graph, there is room for a list of neighbours, and the history fits. Errors: want
-// of memory; graph and history then stay.
+// or by its outline. Conditions: the cotree is that of the graph, there is room for a list of
+// neighbours, and the history fits. Errors: want of memory; graph and history then stay.
 pub(crate) fn answer_undo<const W: usize, L: Ledger>(
     alloc: Global,
     whole: bool,
@@ -56,10 +55,11 @@ pub(crate) fn answer_undo<const W: usize, L: Ledger>(
     Ok(ItemAnswer::Applied(before))
 }
 
-// What is told of the graph before the last item; the graph stays, and so does the graph of the cotree.
-// All memory that an undo takes is taken here, before anything leaves the history. Conditions: the
-// cotree is that of the graph, there is room for a list of neighbours, an item stands, and its
-// edits can be taken back, the last one first, over cographs. Errors: want of memory.
+// What is told of the graph before the last item; the graph stays, and so does the graph of the
+// cotree. All memory that an undo takes is taken here, before anything leaves the history.
+// Conditions: the cotree is that of the graph, there is room for a list of neighbours, an item
+// stands, and its edits can be taken back, the last one first, over cographs. Errors: want of
+// memory.
 fn told_before<const W: usize, L: Ledger>(
     alloc: Global,
     whole: bool,
