@@ -26,7 +26,7 @@ use Rattle.md_checker.specs.FitTests.{AreJoined}
 use Rattle.md_outline.specs.NodeRows.{is_edge_up}
 use Rattle.md_checker.specs.GraphViews.{view_where}
 use Rattle.md_outline.specs.HeadPairs.{head_pairs}
-use Rattle.md_checker.specs.TextViews.{IsView, IsTextOf}
+use Rattle.md_checker.specs.TextViews.{IsView, IsTextOfTree}
 use Rattle.md_checker.proofs.FitsTree.{fits_proof}
 use Rattle.md_outline.proofs.HeadPairs.{ascend_two, listed_in, in_listed}
 
@@ -85,7 +85,7 @@ graph_seen Admits {g} graph = record {
 }
 
 -- a text that the comparison takes is that of the tree of strong modules
-pub text_told : (Admits : Kind → PlainTrees → Type 0) {g : PlainGraph} → IsGraph g → (text : List ℕ) (t : PlainTree) → IsTextOf graph_kinds graph_pairs (view_where Admits g) text t → IsWellFormed (Some t) × IsTreeOf (adjacent g) g.vertices t × (text ≡ tree_text t)
+pub text_told : (Admits : Kind → PlainTrees → Type 0) {g : PlainGraph} → IsGraph g → (text : List ℕ) (t : PlainTree) → IsTextOfTree graph_kinds graph_pairs (view_where Admits g) text t → IsWellFormed (Some t) × IsTreeOf (adjacent g) g.vertices t × (text ≡ tree_text t)
 text_told Admits {g} graph text t is = (
   ((λ x h. graph.names x (subst (λ s. Has s x) is.names_are h)), is.canonical),
   (fits_proof (adjacent g) (graph_adjacency graph) g.vertices t is.canonical).0 (is.names_are, is.fits),

@@ -27,10 +27,10 @@ use Rattle.md_report.specs.Steps.{ItemStep}
 use Rattle.md_report.specs.ItemLines.{IsLineAt, IsGroupLine}
 use Rattle.md_report.specs.declared.line.SessionMode.TheVariants.{Of}
 use Rattle.md_class.specs.declared.items.Answer.TheVariants.{Applied, Refused, Barred}
-use Rattle.md_class.specs.ClassAnswers.{AreKept, IsAnswered}
+use Rattle.md_class.specs.ClassAnswers.{AreKept, IsClassAnswered}
 use Rattle.md_class.specs.declared.answers.ItemAnswer.TheVariants as answers
 use Rattle.md_class.specs.declared.answers.Told.{Told}
-use Rattle.md_class.specs.ItemAnswers.{IsRefusal, IsItemAnswer}
+use Rattle.md_class.specs.ItemAnswers.{IsItemRefusal, IsItemAnswer}
 use Rattle.md_cograph.proofs.GoingBack.{same_rest}
 use Rattle.md_class.proofs.ClassGraphs.{allowed_cograph}
 
@@ -46,27 +46,27 @@ module _ (limit : ℕ) (class : Class) (g : PlainGraph) (items : List (List Edit
   module _ (whole : Bool) (edit : Edit) (next : PlainGraph) where
     -- it is refused with this line
     refused_one : (line : PlainLine) (opened left dropped : List (List Edit)) → is_applied line ≡ false → IsClassLineBy (reason_of g edit) class (after g edit) line → AreKept g opened next left → opened ≡ [] ∷ items → left ≡ [] ∷ dropped
-        → IsRefusal limit class g items (One edit) line next dropped
+        → IsItemRefusal limit class g items (One edit) line next dropped
     refused_one line opened left dropped refuses told kept made last = (
       refuses,
       refused_step limit (Of class) g items (One edit) line next dropped told refuses kept.0
           (same_rest _ items (sym last ∙ (kept.1 ∙ made))) fits,
     )
 
-    pub reason_one : (reason : EditReason) (opened left dropped : List (List Edit)) → IsAnswered class whole g edit opened (Ok (Refused reason)) next left → opened ≡ [] ∷ items → left ≡ [] ∷ dropped
-        → IsRefusal limit class g items (One edit) (refused reason) next dropped
+    pub reason_one : (reason : EditReason) (opened left dropped : List (List Edit)) → IsClassAnswered class whole g edit opened (Ok (Refused reason)) next left → opened ≡ [] ∷ items → left ≡ [] ∷ dropped
+        → IsItemRefusal limit class g items (One edit) (refused reason) next dropped
     reason_one reason opened left dropped told =
         refused_one (refused reason) opened left dropped refl (subst (λ o. IsClassLineBy o class (after g edit) (refused reason)) (sym told.0) refl) told.1
 
-    pub barred_one : (bar : Bar) (opened left dropped : List (List Edit)) → IsAnswered class whole g edit opened (Ok (Barred bar)) next left → opened ≡ [] ∷ items → left ≡ [] ∷ dropped
-        → IsRefusal limit class g items (One edit) (refused_bar bar) next dropped
+    pub barred_one : (bar : Bar) (opened left dropped : List (List Edit)) → IsClassAnswered class whole g edit opened (Ok (Barred bar)) next left → opened ≡ [] ∷ items → left ≡ [] ∷ dropped
+        → IsItemRefusal limit class g items (One edit) (refused_bar bar) next dropped
     barred_one bar opened left dropped told =
         refused_one (refused_bar bar) opened left dropped refl (subst (λ o. IsClassLineBy o class (after g edit) (refused_bar bar)) (sym told.0) (inl (bar, told.1, refl))) told.2
 
   -- ---- what is applied
 
   module _ (few : limit ≤ NAMES) (is : IsGraph g) (below : AllBelow g.vertices limit) (allowed : IsAllowedIn class g) where
-    pub applied_one : (whole : Bool) (edit : Edit) (next : PlainGraph) (told : Told) (opened left : List (List Edit)) → HasNamesBelow limit edit → IsAnswered class whole g edit opened (Ok (Applied told)) next left → opened ≡ [] ∷ items
+    pub applied_one : (whole : Bool) (edit : Edit) (next : PlainGraph) (told : Told) (opened left : List (List Edit)) → HasNamesBelow limit edit → IsClassAnswered class whole g edit opened (Ok (Applied told)) next left → opened ≡ [] ∷ items
         → IsItemAnswer limit class whole g items (One edit) (answers.Applied told) next left
     applied_one whole edit next told opened left names so made =
         let t : Option PlainTree = so.2.1.0 in (
@@ -100,7 +100,7 @@ module _ (limit : ℕ) (class : Class) (g : PlainGraph) (items : List (List Edit
           goes is_left fits
 
       pub ended_group : (edit : Edit) (line : PlainLine) → slice_get edits n ≡ Some edit → IsLineAt (reason_of h edit) (Of class) (n + 1) (after h edit) ⊥ line → (next : PlainGraph) (left : List (List Edit)) → next ≡ g → left ≡ items
-          → IsRefusal limit class g items (Group edits) line next left
+          → IsItemRefusal limit class g items (Group edits) line next left
       ended_group edit line at told next left same kept =
           let ends = end_line class (reason_of h edit) (n + 1) (after h edit) (IsGroupLine (Of class) (n + 1) (after h edit) (drop (n + 1) edits) line) line told in
           let whole = (past_applied (Of class) g h edits back n line so).1

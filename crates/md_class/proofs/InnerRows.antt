@@ -13,7 +13,7 @@ use Rattle.md_bar_tree.proofs.BarLaw.{one_of_leaves}
 use Rattle.md_class.specs.declared.few_inner.InnerRoom.{InnerRoom}
 use Rattle.md_class.specs.declared.few_inner.InnerRoom.TheVariants.{Any, One, NoMore}
 use Rattle.md_class.specs.declared.few_inner.Row.{Row}
-use Rattle.md_class.specs.InnerRows.{MayBe, MayBeIn, ComingRow, kept_row, kept_rows, with_row, rows_left, HaveRoom, AreComing}
+use Rattle.md_class.specs.InnerRows.{MayBe, MayBeIn, ComingRow, kept_row, kept_rows, with_row, rows_left, HaveInnerRoom, AreComing}
 
 -- ---- the end of an outline
 
@@ -48,7 +48,7 @@ may_none Any = tt
 may_none One = tt
 may_none NoMore = tt
 
-put_room : (class : Class) (room : InnerRoom) (cs : PlainTrees) (rs : List ComingRow) → HaveRoom class (put_row room cs rs) ↔ (MayBe room cs × HaveFewInner class cs × HaveRoom class rs)
+put_room : (class : Class) (room : InnerRoom) (cs : PlainTrees) (rs : List ComingRow) → HaveInnerRoom class (put_row room cs rs) ↔ (MayBe room cs × HaveFewInner class cs × HaveInnerRoom class rs)
 put_room class room no_tree rs = ((λ h. (may_none room, tt, h)), λ h. h.2)
 put_room class room (one_more t ts) rs = ((λ h. h), λ h. h)
 
@@ -77,12 +77,12 @@ module _ (class : Class) (t : PlainTree) (others : List (OutlinePart Kind)) (kep
       row_is : row ≡ record { room = room; behind = count behind }
       front_are : front ≡ kept_rows outer
       parts_are : part ∷ others ≡ outline_of next ++ (row_outline behind ++ rows_left outer)
-      same : (MayBe room (one_more next behind) × HaveFewInner class (one_more next behind) × HaveRoom class outer) ↔ HasFewInner class t
+      same : (MayBe room (one_more next behind) × HaveFewInner class (one_more next behind) × HaveInnerRoom class outer) ↔ HasFewInner class t
 
     last_row : (part : OutlinePart Kind) → AreComing class t (part ∷ others) kept → IsLast part
     last_row part coming = by_rows coming.rows coming.kept_are coming.parts_are coming.same
       where
-        by_rows : (rows : List ComingRow) → kept ≡ kept_rows rows → part ∷ others ≡ rows_left rows → HaveRoom class rows ↔ HasFewInner class t → IsLast part
+        by_rows : (rows : List ComingRow) → kept ≡ kept_rows rows → part ∷ others ≡ rows_left rows → HaveInnerRoom class rows ↔ HasFewInner class t → IsLast part
         by_rows [] kept_are parts_are same = absurd (no_part part others parts_are)
         by_rows (r ∷ rs) kept_are parts_are same =
             let ends : (front ≡ kept_rows rs) × (row ≡ kept_row r) = same_from_push front (kept_rows rs) row (kept_row r) (sym cut ∙ kept_are) in
@@ -104,7 +104,7 @@ module _ (class : Class) (t : PlainTree) (others : List (OutlinePart Kind)) (kep
         last = last_row (Name v) coming
 
         by_next : (u : PlainTree) → Name v ∷ others ≡ outline_of u ++ (row_outline last.behind ++ rows_left last.outer) →
-            (MayBe last.room (one_more u last.behind) × HaveFewInner class (one_more u last.behind) × HaveRoom class last.outer) ↔ HasFewInner class t → AreComing class t others next
+            (MayBe last.room (one_more u last.behind) × HaveFewInner class (one_more u last.behind) × HaveInnerRoom class last.outer) ↔ HasFewInner class t → AreComing class t others next
         by_next (leaf w) parts_are same =
             let rest : others ≡ row_outline last.behind ++ rows_left last.outer = cc in
             let put_is = put_room class last.room last.behind last.outer in
@@ -129,7 +129,7 @@ module _ (class : Class) (t : PlainTree) (others : List (OutlinePart Kind)) (kep
           last = last_row (Node k n) coming
 
           by_next : (u : PlainTree) → Node k n ∷ others ≡ outline_of u ++ (row_outline last.behind ++ rows_left last.outer) →
-              (MayBe last.room (one_more u last.behind) × HaveFewInner class (one_more u last.behind) × HaveRoom class last.outer) ↔ HasFewInner class t → AreComing class t others next
+              (MayBe last.room (one_more u last.behind) × HaveFewInner class (one_more u last.behind) × HaveInnerRoom class last.outer) ↔ HasFewInner class t → AreComing class t others next
           by_next (leaf w) parts_are same = let f : Node k n ≡ Name w = cc in absurd (cc)
           by_next (node l cs ps) parts_are same =
               let kind : k ≡ l = cc in
@@ -159,7 +159,7 @@ module _ (class : Class) (t : PlainTree) (others : List (OutlinePart Kind)) (kep
           last = last_row (Node k n) coming
 
           by_next : (u : PlainTree) → Node k n ∷ others ≡ outline_of u ++ (row_outline last.behind ++ rows_left last.outer) →
-              (MayBe last.room (one_more u last.behind) × HaveFewInner class (one_more u last.behind) × HaveRoom class last.outer) ↔ HasFewInner class t → ⊥
+              (MayBe last.room (one_more u last.behind) × HaveFewInner class (one_more u last.behind) × HaveInnerRoom class last.outer) ↔ HasFewInner class t → ⊥
           by_next (leaf w) parts_are same = let f : Node k n ≡ Name w = cc in absurd (cc)
           by_next (node l cs ps) parts_are same =
               (inner (node l cs ps) last.behind tt).0 (subst (λ (o : Row). MayBe o.room (one_more (node l cs ps) last.behind)) (sym last.row_is) (same.1 few).0)
@@ -177,7 +177,7 @@ first_coming class t parts kept are put = record {
 few_of_none : (class : Class) (t : PlainTree) (kept : List Row) → AreComing class t [] kept → HasFewInner class t
 few_of_none class t kept coming = by_rows coming.rows coming.parts_are coming.same
   where
-    by_rows : (rows : List ComingRow) → [] ≡ rows_left rows → HaveRoom class rows ↔ HasFewInner class t → HasFewInner class t
+    by_rows : (rows : List ComingRow) → [] ≡ rows_left rows → HaveInnerRoom class rows ↔ HasFewInner class t → HasFewInner class t
     by_rows [] parts_are same = same.0 tt
     by_rows (r ∷ rs) parts_are same = absurd (no_outline r.next (row_outline r.others ++ rows_left rs) parts_are)
 

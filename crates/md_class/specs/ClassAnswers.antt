@@ -35,13 +35,13 @@ IsPushedTo g edit items left =
 
 -- what comes of an edit at g, the graph behind it, and the items: it is applied, or refused for the reason against it, or since the
 -- graph after it has a bar of the class; or memory is wanted, and all stays
-abbrev pub IsAnswered : Class → Bool → PlainGraph → Edit → List (List Edit) → Result Answer Memory → PlainGraph → List (List Edit) → Type 0
-IsAnswered class whole g edit items (Ok (Applied told)) next left =
+abbrev pub IsClassAnswered : Class → Bool → PlainGraph → Edit → List (List Edit) → Result Answer Memory → PlainGraph → List (List Edit) → Type 0
+IsClassAnswered class whole g edit items (Ok (Applied told)) next left =
     (reason_of g edit ≡ None) × (next ≡ after g edit) × IsFitOf class whole next (fits.Told told) × IsPushedTo g edit items left
-IsAnswered class whole g edit items (Ok (Refused reason)) next left = (reason_of g edit ≡ Some reason) × AreKept g items next left
-IsAnswered class whole g edit items (Ok (Barred bar)) next left =
+IsClassAnswered class whole g edit items (Ok (Refused reason)) next left = (reason_of g edit ≡ Some reason) × AreKept g items next left
+IsClassAnswered class whole g edit items (Ok (Barred bar)) next left =
     (reason_of g edit ≡ None) × IsBarOf class (after g edit) bar × AreKept g items next left
-IsAnswered class whole g edit items (Err wanted) next left = AreKept g items next left
+IsClassAnswered class whole g edit items (Err wanted) next left = AreKept g items next left
 
 -- what comes of a group of which n edits were applied, and gave h: these are all; or the line is that of the next one, at which the group
 -- ends; or memory is wanted

@@ -48,18 +48,18 @@ rows_left [] = []
 rows_left (r ∷ rs) = outline_of r.next ++ (row_outline r.others ++ rows_left rs)
 
 -- of each row no more are inner than may be, and the trees have few inner children themselves
-abbrev pub HaveRoom : Class → List ComingRow → Type 0
-HaveRoom class [] = ⊤
-HaveRoom class (r ∷ rs) = MayBe r.room (one_more r.next r.others) × HaveFewInner class (one_more r.next r.others) × HaveRoom class rs
+abbrev pub HaveInnerRoom : Class → List ComingRow → Type 0
+HaveInnerRoom class [] = ⊤
+HaveInnerRoom class (r ∷ rs) = MayBe r.room (one_more r.next r.others) × HaveFewInner class (one_more r.next r.others) × HaveInnerRoom class rs
 
 -- these parts of the outline of t are still to come, in the rows that are kept, and t has few inner children exactly where these have
 pub record AreComing (class : Class) (t : PlainTree) (parts : List (OutlinePart Kind)) (kept : List Row) : Type 0 where
   pub rows : List ComingRow
   pub kept_are : kept ≡ kept_rows rows
   pub parts_are : parts ≡ rows_left rows
-  pub same : HaveRoom class rows ↔ HasFewInner class t
+  pub same : HaveInnerRoom class rows ↔ HasFewInner class t
 
 -- the same where the pass goes on; where it doesn't, t has a node with too many
-abbrev pub GoesOn : Bool → Class → PlainTree → List (OutlinePart Kind) → List Row → Type 0
-GoesOn true class t parts kept = AreComing class t parts kept
-GoesOn false class t parts kept = ¬ (HasFewInner class t)
+abbrev pub HasGoneOn : Bool → Class → PlainTree → List (OutlinePart Kind) → List Row → Type 0
+HasGoneOn true class t parts kept = AreComing class t parts kept
+HasGoneOn false class t parts kept = ¬ (HasFewInner class t)

@@ -34,17 +34,17 @@ abbrev pub IsToldOf : Bool → PlainGraph → Told → Type 0
 IsToldOf whole g told = (t : Option PlainTree) × IsTree (adjacent g) g.vertices t × Tells whole t told
 
 -- the item at g is refused with this line, and graph and history stay
-abbrev pub IsRefusal : ℕ → bars.Class → PlainGraph → List (List script.Edit) → Item → PlainLine → PlainGraph → List (List script.Edit) → Type 0
-IsRefusal limit class g items item line next left = (is_applied line ≡ false) × ItemStep limit (Of class) g items item line next left
+abbrev pub IsItemRefusal : ℕ → bars.Class → PlainGraph → List (List script.Edit) → Item → PlainLine → PlainGraph → List (List script.Edit) → Type 0
+IsItemRefusal limit class g items item line next left = (is_applied line ≡ false) × ItemStep limit (Of class) g items item line next left
 
 -- what comes of an item at g with a history of these items: it is applied, and the tree of the graph behind it is told; or it is refused
 abbrev pub IsItemAnswer : ℕ → bars.Class → Bool → PlainGraph → List (List script.Edit) → Item → ItemAnswer → PlainGraph → List (List script.Edit) → Type 0
 IsItemAnswer limit class whole g items item (answers.Applied told) next left =
     (t : Option PlainTree) × IsTree (adjacent next) next.vertices t × Tells whole t told × ItemStep limit (Of class) g items item (applied t) next left
-IsItemAnswer limit class whole g items item (answers.Refused line) next left = IsRefusal limit class g items item (plain_class_line line) next left
+IsItemAnswer limit class whole g items item (answers.Refused line) next left = IsItemRefusal limit class g items item (plain_class_line line) next left
 
 -- the same for callers that write the line from an outline: that of the tree of the graph behind an item that is applied
 abbrev pub IsClassAnswer : ℕ → bars.Class → PlainGraph → List (List script.Edit) → Item → told.ClassAnswer → PlainGraph → List (List script.Edit) → Type 0
 IsClassAnswer limit class g items item (class_answers.Applied parts) next left =
     (t : Option PlainTree) × IsTree (adjacent next) next.vertices t × (parts.items ≡ outline_option t) × ItemStep limit (Of class) g items item (applied t) next left
-IsClassAnswer limit class g items item (class_answers.Refused line) next left = IsRefusal limit class g items item (plain_class_line line) next left
+IsClassAnswer limit class g items item (class_answers.Refused line) next left = IsItemRefusal limit class g items item (plain_class_line line) next left

@@ -5,7 +5,7 @@ ghost use Rattle.md_tree.specs.Trees.{PlainTree, PlainTrees, one_more};
 ghost use Rattle.md_outline.specs.declared.outline.OutlinePart.{OutlinePart};
 ghost use Rattle.md_outline.specs.Outlines.{outline_option};
 ghost use Rattle.md_bar_tree.specs.Inner.{IsInnerTree, HasOneInner, IsNarrow, HasFewInnerIn};
-ghost use Rattle.md_class.specs.InnerRows.{MayBe, MayBeIn, with_row, AreComing, GoesOn};
+ghost use Rattle.md_class.specs.InnerRows.{MayBe, MayBeIn, with_row, AreComing, HasGoneOn};
 
 use md_bar_tree::Class;
 use md_graph::Memory;
@@ -55,7 +55,7 @@ pub(crate) fn has_few_inner(
 fn take_part(rows: &mut Vec<Row>, part: OutlinePart<Kind>, class: Class) -> Result<bool, Memory>
     ensures { IfOk result (λ may. (t : PlainTree) (others : List (OutlinePart Kind))
         → AreComing class t (part ∷ others) rows.old.items
-        → GoesOn may class t others rows.new.items) }
+        → HasGoneOn may class t others rows.new.items) }
 {
     let Some(row) = rows.pop() else {
         return Ok(true);

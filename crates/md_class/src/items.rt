@@ -10,7 +10,7 @@ ghost use Rattle.md_script.specs.Pasts.{HasApplied};
 ghost use Rattle.md_script.specs.Histories.{HistoryFits};
 ghost use Rattle.md_report.specs.Lines.{path_bar};
 ghost use Rattle.md_report.specs.Classes.{IsAllowedIn};
-ghost use Rattle.md_class.specs.ClassAnswers.{IsFitOf, IsAnswered, IsGroupEnd};
+ghost use Rattle.md_class.specs.ClassAnswers.{IsFitOf, IsClassAnswered, IsGroupEnd};
 ghost use Rattle.md_class.specs.ItemAnswers.{IsItemAnswer};
 
 use crate::answers::{ItemAnswer, Told, told_of};
@@ -225,7 +225,7 @@ fn step<const W: usize, L: Ledger>(
     requires near { 64 * W ≤ vec_capacity near.old }
     requires item { 0 < length history.old.items }
     requires room { 1 ≤ history.old.spare }
-    ensures answer { IsAnswered class whole graph.old edit.now history.old.items result graph.new
+    ensures answer { IsClassAnswered class whole graph.old edit.now history.old.items result graph.new
         history.new.items }
     ensures denotes { Denotes tree.new graph.new }
     ensures near { vec_capacity near.new ≡ vec_capacity near.old }

@@ -13,7 +13,7 @@ use Rattle.md_script.specs.Pasts.{all_after}
 use Rattle.md_report.specs.declared.line.SessionMode.{SessionMode}
 use Rattle.md_report.specs.declared.line.SessionMode.TheVariants.{Edit, Cograph, Quiet, Of}
 use Rattle.md_report.specs.Lines.{PlainLine}
-use Rattle.md_report.specs.Cographs.{IsCograph, IsPathOf}
+use Rattle.md_report.specs.Cographs.{IsCograph, IsP4Bar}
 use Rattle.md_report.specs.ItemLines.{IsAllowed, IsBarred, IsDoneLine, IsLineAt, IsGroupLine, IsUndoLine, AnswersItem}
 use Rattle.md_report.specs.Laws.{KeepsCographs}
 use Rattle.md_report.specs.Sessions.{State, undone, applied_state, is_applied, state_behind}
@@ -24,7 +24,7 @@ use Rattle.md_report.proofs.ItemLines.{IsEditLine, edit_line, state_applied}
 abbrev pub IsToldLine : SessionMode → PlainGraph → PlainLine → PlainLine → Type 0
 IsToldLine mode h line second = ((is_applied line ≡ false) × (second ≡ line)) ⊎ ((is_applied line ≡ true) × (is_applied second ≡ true) × IsDoneLine mode h second)
 
-barred_in : (mode : SessionMode) → KeepsCographs mode → (g : PlainGraph) (bar : Bar) → IsPathOf g bar → IsBarred mode g bar
+barred_in : (mode : SessionMode) → KeepsCographs mode → (g : PlainGraph) (bar : Bar) → IsP4Bar g bar → IsBarred mode g bar
 barred_in Edit kept g bar path = absurd kept
 barred_in Cograph kept g bar path = path
 barred_in Quiet kept g bar path = path
