@@ -12,7 +12,6 @@ pub mod Naming
 pub mod OutlineTrees
 pub mod Rooted
 pub mod Planted
-pub mod TreeOutlines
 pub mod Ways
 pub mod Meeting
 pub mod Leaves

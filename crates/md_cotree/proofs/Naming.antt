@@ -2,10 +2,6 @@
 -- prime.
 use Rattle.std.proofs.Common.{◌≡◌, ℕ, ◌+◌, ◌*◌, ◌<◌, ◌≤◌, cond, ◌==◌, List, [], ◌∷◌, ◌++◌, length, Option, Some, None, refl, ◌∙◌, ap, subst, inl, inr, arith, length-append}
 use Rattle.std.proofs.lemmas.Bool.{cases_eq, cases_lt, cases_Bool, ne_eqb}
-use Rattle.std.proofs.lemmas.List.Elements.{All-nil, All-push, All-append, All-head, All-tail, All-take, All-drop}
-use Rattle.std.proofs.Math.Seq.{take-append_seam, drop-append_seam}
-use Rattle.std.specs.List.{All}
-use Rattle.std.specs.Prelude.{◌↔◌}
 use Rattle.md_graph.specs.declared.TheConstants.{NAMES}
 use Rattle.md_graph.specs.Sets.{Has, only_name}
 use Rattle.md_graph.proofs.SetLemmas.{clash, only_has, union_left, union_right}
@@ -13,13 +9,11 @@ use Rattle.md_graph.specs.Linked.{times}
 use Rattle.md_lists.proofs.ListLaws.{times-append, few}
 use Rattle.md_tree.specs.declared.Kind.{Kind}
 use Rattle.md_tree.specs.Trees.{PlainTree, leaf, node, PlainTrees, no_tree, one_more, names, names_below, count, EachNode, EachNodeBelow}
-use Rattle.md_tree.specs.NoPrimes.{HasNoPrime}
 use Rattle.md_tree.specs.WellFormed.{AreDisjoint, IsCanonicalNode, IsCanonicalTree, IsWellFormed}
 use Rattle.md_tree.proofs.Spelled.{plain_two}
 use Rattle.md_outline.specs.declared.outline.OutlinePart.{OutlinePart}
 use Rattle.md_outline.specs.declared.outline.OutlinePart.TheVariants.{Name, Node}
-use Rattle.md_outline.specs.Outlines.{outline_of, row_outline, outline_option}
-use Rattle.md_cotree.specs.OutlineParts.{IsNoPrimePart}
+use Rattle.md_outline.specs.Outlines.{outline_of, row_outline}
 use Rattle.md_cotree.proofs.Cographs.{NotPrime, plain_shape}
 
 -- the names among the parts
@@ -100,35 +94,3 @@ mutual
       let a = length-append (outline_of t) (row_outline ts) in
       let b = length-named (outline_of t) (row_outline ts) in
       omega arith
-
--- ---- parts that are no prime nodes
-
-mutual
-  pub plain_parts : (t : PlainTree) → EachNode NotPrime t → All IsNoPrimePart (outline_of t)
-  plain_parts (leaf v) not = All-push IsNoPrimePart [] (Name v) (All-nil IsNoPrimePart) tt
-  plain_parts (node k cs ps) not = All-append IsNoPrimePart (Node k (count cs) ∷ []) (row_outline cs) (All-push IsNoPrimePart [] (Node k (count cs)) (All-nil IsNoPrimePart) not.0) (plain_parts_below cs not.1)
-
-  plain_parts_below : (ts : PlainTrees) → EachNodeBelow NotPrime ts → All IsNoPrimePart (row_outline ts)
-  plain_parts_below no_tree not = All-nil IsNoPrimePart
-  plain_parts_below (one_more t ts) not = All-append IsNoPrimePart (outline_of t) (row_outline ts) (plain_parts t not.0) (plain_parts_below ts not.1)
-
-all_first : (xs ys : List (OutlinePart Kind)) → All IsNoPrimePart (xs ++ ys) → All IsNoPrimePart xs
-all_first xs ys all = subst (All IsNoPrimePart) (take-append_seam xs ys) (All-take IsNoPrimePart (length xs) (xs ++ ys) all)
-
-all_rest : (xs ys : List (OutlinePart Kind)) → All IsNoPrimePart (xs ++ ys) → All IsNoPrimePart ys
-all_rest xs ys all = subst (All IsNoPrimePart) (drop-append_seam xs ys) (All-drop IsNoPrimePart (length xs) (xs ++ ys) all)
-
-mutual
-  no_prime_node : (t : PlainTree) → All IsNoPrimePart (outline_of t) → EachNode NotPrime t
-  no_prime_node (leaf v) all = tt
-  no_prime_node (node k cs ps) all = (All-head IsNoPrimePart (Node k (count cs)) (row_outline cs) all, no_prime_below cs (All-tail IsNoPrimePart (Node k (count cs)) (row_outline cs) all))
-
-  no_prime_below : (ts : PlainTrees) → All IsNoPrimePart (row_outline ts) → EachNodeBelow NotPrime ts
-  no_prime_below no_tree all = tt
-  no_prime_below (one_more t ts) all =
-      (no_prime_node t (all_first (outline_of t) (row_outline ts) all), no_prime_below ts (all_rest (outline_of t) (row_outline ts) all))
-
--- no part is a prime node exactly where no node of the tree is prime
-pub no_prime_parts : (o : Option PlainTree) → HasNoPrime o ↔ All IsNoPrimePart (outline_option o)
-no_prime_parts None = (λ not. All-nil IsNoPrimePart, λ all. tt)
-no_prime_parts (Some t) = (plain_parts t, no_prime_node t)

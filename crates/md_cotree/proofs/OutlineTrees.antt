@@ -7,10 +7,11 @@ use Rattle.md_tree.specs.declared.Kind.{Kind}
 use Rattle.md_tree.specs.Parts.{listed}
 use Rattle.md_tree.specs.Trees.{PlainTree, leaf, node, PlainTrees, no_tree, one_more, count, row, EachNode, EachNodeBelow}
 use Rattle.md_tree.specs.WellFormed.{IsCanonicalNode, IsCanonicalTree}
-use Rattle.md_tree.proofs.Folding.{count_row, row_listed}
+use Rattle.md_tree.proofs.Folding.{count_row, row_listed, length_listed}
 use Rattle.md_outline.specs.declared.outline.OutlinePart.{OutlinePart}
 use Rattle.md_outline.specs.declared.outline.OutlinePart.TheVariants.{Name, Node}
 use Rattle.md_outline.specs.Outlines.{outline_of, row_outline}
+use Rattle.md_outline.proofs.TreeOutlines.{outline-append}
 use Rattle.md_cotree.specs.Forests.{with_outline_part, HasTreesFor}
 use Rattle.md_cotree.proofs.Cographs.{NotPrime, plain_shape}
 
@@ -24,19 +25,12 @@ abbrev pub FindTrees : List (OutlinePart Kind) → Type 0
 FindTrees [] = ⊤
 FindTrees (p ∷ ps) = HasTreesFor p (trees_told ps) × FindTrees ps
 
-pub outline_both : (xs ys : List PlainTree) → row_outline (row (xs ++ ys)) ≡ row_outline (row xs) ++ row_outline (row ys)
-outline_both [] ys = refl
-outline_both (x ∷ xs) ys = ap (λ ps. outline_of x ++ ps) (outline_both xs ys) ∙ sym (append_assoc (outline_of x) (row_outline (row xs)) (row_outline (row ys)))
-
-counted : (cs : PlainTrees) → count cs ≡ length (listed cs)
-counted cs = sym (ap count (row_listed cs)) ∙ count_row (listed cs)
-
 mutual
   pub told_tree : (t : PlainTree) → IsCanonicalTree t → EachNode NotPrime t → (ps : List (OutlinePart Kind)) → trees_told (outline_of t ++ ps) ≡ t ∷ trees_told ps
   told_tree (leaf v) each not ps = refl
   told_tree (node k cs qs) each not ps =
       ap (λ zs. node k (row (take (count cs) zs)) [] ∷ drop (count cs) zs) (told_row cs each.1 not.1 ps)
-      ∙ ap (λ n. node k (row (take n (listed cs ++ trees_told ps))) [] ∷ drop n (listed cs ++ trees_told ps)) (counted cs)
+      ∙ ap (λ n. node k (row (take n (listed cs ++ trees_told ps))) [] ∷ drop n (listed cs ++ trees_told ps)) (sym (length_listed cs))
       ∙ (λ i. node k (row (take-append_seam (listed cs) (trees_told ps) i)) [] ∷ drop-append_seam (listed cs) (trees_told ps) i)
       ∙ (λ i. node k (row_listed cs i) (sym (plain_shape k cs qs not.0 each.0.shape).no_pairs i) ∷ trees_told ps)
 
@@ -49,7 +43,7 @@ mutual
   find_tree : (t : PlainTree) → IsCanonicalTree t → EachNode NotPrime t → (ps : List (OutlinePart Kind)) → FindTrees ps → FindTrees (outline_of t ++ ps)
   find_tree (leaf v) each not ps rest = (tt, rest)
   find_tree (node k cs qs) each not ps rest = (
-    (let e = ap length (told_row cs each.1 not.1 ps) in let a = length-append (listed cs) (trees_told ps) in let n = counted cs in omega arith),
+    (let e = ap length (told_row cs each.1 not.1 ps) in let a = length-append (listed cs) (trees_told ps) in let n = length_listed cs in omega arith),
     find_row cs each.1 not.1 ps rest,
   )
 
@@ -73,7 +67,7 @@ outline_put (Name v) zs has = refl
 outline_put (Node k n) zs has =
     let long : count (row (take n zs)) ≡ n = count_row (take n zs) ∙ omega (arith, length-take n zs) in
     ap (λ m. Node k m ∷ (row_outline (row (take n zs)) ++ row_outline (row (drop n zs)))) long
-    ∙ ap (λ ps. Node k n ∷ ps) (sym (outline_both (take n zs) (drop n zs)) ∙ ap (λ ts. row_outline (row ts)) (take-append-drop n zs))
+    ∙ ap (λ ps. Node k n ∷ ps) (sym (outline-append (take n zs) (drop n zs)) ∙ ap (λ ts. row_outline (row ts)) (take-append-drop n zs))
 
 -- the outlines of the trees that the parts tell are the parts
 pub outline_told : (ps : List (OutlinePart Kind)) → FindTrees ps → row_outline (row (trees_told ps)) ≡ ps

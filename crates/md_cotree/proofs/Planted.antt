@@ -22,9 +22,10 @@ use Rattle.md_tree.proofs.Spelled.{plain_two}
 use Rattle.md_outline.specs.declared.outline.OutlinePart.{OutlinePart}
 use Rattle.md_outline.specs.declared.outline.OutlinePart.TheVariants.{Name, Node}
 use Rattle.md_outline.specs.Outlines.{outline_of, row_outline, outline_option}
+use Rattle.md_outline.specs.OutlineParts.{IsNoPrimePart}
+use Rattle.md_outline.proofs.NoPrimeParts.{no_prime_parts}
 use Rattle.md_cotree.specs.declared.cotree.Cotree.{Cotree}
 use Rattle.md_cotree.specs.PlaceTrees.{PlaceTree, tip, inner, PlaceTrees, no_more, then, place_of, roots, kind_of, leaves_in, leaves_among, node_count, node_counts, NoneInner, Alternates, AllAlternate, shape, shapes, FillsLists}
-use Rattle.md_cotree.specs.OutlineParts.{IsNoPrimePart}
 use Rattle.md_cotree.specs.Forests.{shape_list, IsForest, IsReady, with_outline_part, HasTreesFor}
 use Rattle.md_cotree.specs.Cotrees.{AreEntries, root_row, IsKeptAs, Denotes}
 use Rattle.md_cotree.proofs.Cographs.{plain_shape}
@@ -32,7 +33,7 @@ use Rattle.md_cotree.proofs.Rows.{row_shapes}
 use Rattle.md_cotree.proofs.Rooted.{count_shapes}
 use Rattle.md_cotree.proofs.Frames.{hit}
 use Rattle.md_cotree.proofs.NoPaths.{kind_not_prime}
-use Rattle.md_cotree.proofs.Naming.{named, times-named, name_has, name_once, few_names, few_parts, no_prime_parts}
+use Rattle.md_cotree.proofs.Naming.{named, times-named, name_has, name_once, few_names, few_parts}
 use Rattle.md_cotree.proofs.OutlineTrees.{trees_told, FindTrees, find_all, find_rest, told_all, outline_told}
 
 -- ---- the trees and their outlines

@@ -1,6 +1,5 @@
 pub mod Laws
 pub mod PlaceTrees
-pub mod OutlineParts
 pub mod Forests
 pub mod Climbs
 pub mod Orders

@@ -6,10 +6,8 @@ mod cotree;
 pub mod laws;
 mod ordering;
 mod outline;
-mod outline_parts;
 mod planting;
 
 pub use adjacency::parent_of;
 pub use cotree::{Cotree, keep_place};
-pub use outline_parts::has_no_prime_part;
 pub use planting::{from_outline, from_tree};

@@ -14,10 +14,9 @@ ghost use Rattle.md_cotree.specs.PlaceTrees.{PlaceTrees, no_more, then, tip, inn
 
 use crate::Cotree;
 use crate::cotree::keep_place;
-use crate::outline_parts::tree_outline;
 use md_graph::{Memory, NAMES, Steps};
 use md_lists::{Lists, PLACES, PlaceKind};
-use md_outline::OutlinePart;
+use md_outline::{OutlinePart, tree_outline};
 use md_tree::{Kind, Tree};
 use std::alloc::Global;
 use std::marker::Brand;

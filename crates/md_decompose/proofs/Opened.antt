@@ -26,12 +26,13 @@ use Rattle.md_decompose.specs.declared.decomposition.OpenSet.{OpenSet}
 use Rattle.md_tree.specs.Parts.{PlainPart, name, inner}
 use Rattle.md_outline.specs.declared.outline.OutlinePart.{OutlinePart}
 use Rattle.md_outline.specs.declared.outline.OutlinePart.TheVariants.{Name, Node}
+use Rattle.md_outline.proofs.TreeOutlines.{map_reverse}
 use Rattle.md_decompose.specs.Children.{FitsBelow, AreChildren}
 use Rattle.md_decompose.specs.declared.nested_modules.Nested.{Nested}
 use Rattle.md_decompose.specs.Chains.{step_at, AreSteps, IsChainOf, IsChainFront}
 use Rattle.md_decompose.specs.Turns.{open_names, IsOpenOf, IsNoVertexAlone, IsUnder, FitsOpen, HasChain, HasNoChain, HasFront, sets_of, AreBare, IsFirstOpen, AreOpen, IsNode, IsPartOf, IsOutlinePartOf, TakesApart}
 use Rattle.md_decompose.proofs.ChainLemmas.{steps_none, steps_inside}
-use Rattle.md_decompose.proofs.Turned.{map_reverse, in_reverse, each_reverse, laid_outlines}
+use Rattle.md_decompose.proofs.Turned.{in_reverse, each_reverse, laid_outlines}
 use Rattle.md_decompose.proofs.Waiting.{no_trees, count_trees, IsLaidBackward, laid_parts, GoesOn, IsPartOver, goes_begin, goes_more, goes_end}
 use Rattle.md_decompose.proofs.Joining.{has_pairs, all_names, node_built, weights, weights-append, weights-reverse, child_maximal, children_fall}
 

@@ -1,20 +1,16 @@
 -- Lists turned round, and the outlines of trees from the last to the first.
-use Rattle.std.proofs.Common.{◌≡◌, ℕ, ◌-◌, List, [], ◌∷◌, ◌++◌, length, take, drop, map, reverse, refl, sym, ◌∙◌, ap, subst, inl, inr, arith, append_assoc, append-nil, length-append}
-use Rattle.std.proofs.lemmas.List.{map-append, take_at, drop_at, take_all, drop_all, take_rest, length-reverse, reverse-append}
+use Rattle.std.proofs.Common.{◌≡◌, ℕ, ◌-◌, List, [], ◌∷◌, ◌++◌, length, take, drop, reverse, refl, sym, ◌∙◌, ap, subst, inl, inr, arith, append-nil, length-append}
+use Rattle.std.proofs.lemmas.List.{take_at, drop_at, take_all, drop_all, take_rest, length-reverse, reverse-append}
 use Rattle.md_text.proofs.Lists.{In, in_left, in_right}
 use Rattle.md_tree.specs.Trees.{PlainTreeOf, PlainTreesOf, row, EachNodeBelow}
 use Rattle.md_tree.proofs.Folding.{each_join}
 use Rattle.md_outline.specs.declared.outline.OutlinePart.{OutlinePart}
-use Rattle.md_outline.specs.Outlines.{outline_of, row_outline}
+use Rattle.md_outline.specs.Outlines.{row_outline}
+use Rattle.md_outline.proofs.TreeOutlines.{outline-append}
 use Rattle.md_decompose.proofs.Waiting.{IsLaidBackward}
 
 reverse_more : {A : Type 0} (x : A) (xs : List A) → reverse (x ∷ xs) ≡ reverse xs ++ x ∷ []
 reverse_more x xs = reverse-append (x ∷ []) xs
-
-pub map_reverse : {A B : Type 0} (f : A → B) (xs : List A) → map f (reverse xs) ≡ reverse (map f xs)
-map_reverse f [] = refl
-map_reverse f (x ∷ xs) =
-    ap (map f) (reverse_more x xs) ∙ map-append f (reverse xs) (x ∷ []) ∙ ap (λ ys. ys ++ f x ∷ []) (map_reverse f xs) ∙ sym (reverse_more (f x) (map f xs))
 
 pub in_reverse : {A : Type 0} (xs : List A) (y : A) → In xs y → In (reverse xs) y
 in_reverse [] y i = absurd i
@@ -46,10 +42,6 @@ module _ {A : Type 0} (old os items now turned : List A) (n : ℕ) (at_end : n �
   turned_end size sized =
       let long : length whole ≡ length items = omega (arith, ap length whole_is, length-append old (reverse os), length-reverse os, ap length is, length-append old os) in
       ap (λ l. take size (whole ++ l)) (drop_all (length whole) items (omega arith)) ∙ ap (take size) (append-nil whole) ∙ take_all size whole (omega arith) ∙ whole_is
-
-outline-append : {K P : Type 0} (xs ys : List (PlainTreeOf K P)) → row_outline (row (xs ++ ys)) ≡ row_outline (row xs) ++ row_outline (row ys)
-outline-append [] ys = refl
-outline-append (x ∷ xs) ys = ap (λ ps. outline_of x ++ ps) (outline-append xs ys) ∙ sym (append_assoc (outline_of x) (row_outline (row xs)) (row_outline (row ys)))
 
 -- the outlines of trees, that of the last one first
 abbrev pub laid_outlines : {K P : Type 0} → List (PlainTreeOf K P) → List (OutlinePart K)

@@ -1,3 +1,5 @@
 pub mod HeadPairs
 pub mod NodeRows
 pub mod Writing
+pub mod TreeOutlines
+pub mod NoPrimeParts

@@ -12,10 +12,10 @@ use Rattle.md_tree.specs.WellFormed.{IsWellFormed}
 use Rattle.md_tree.proofs.OneTree.{well_formed_proof, graph_proof}
 use Rattle.md_outline.specs.declared.outline.OutlinePart.{OutlinePart}
 use Rattle.md_outline.specs.Outlines.{outline_option}
+use Rattle.md_outline.specs.OutlineParts.{IsNoPrimePart}
+use Rattle.md_outline.proofs.NoPrimeParts.{no_prime_parts}
 use Rattle.md_cotree.specs.Cotrees.{Denotes}
 use Rattle.md_cotree.specs.declared.cotree.Cotree.{Cotree}
-use Rattle.md_cotree.specs.OutlineParts.{IsNoPrimePart}
-use Rattle.md_cotree.proofs.Naming.{no_prime_parts}
 use Rattle.md_report.specs.Cographs.{IsCograph}
 use Rattle.md_cograph.proofs.Changed.{no_prime_of}
 

@@ -21,11 +21,11 @@ ghost use Rattle.md_report.specs.Steps.{ItemStep};
 
 use crate::cograph_items::{ItemAnswer, answer_group, answer_one, answer_undo};
 use md_cograph::{any_p4, change, p4_behind};
-use md_cotree::{Cotree, from_outline, has_no_prime_part};
+use md_cotree::{Cotree, from_outline};
 use md_decompose::{decompose, graph_outline};
 use md_graph::{GraphOf, Memory, Steps, WORDS};
 use md_modules::P4;
-use md_outline::OutlinePart;
+use md_outline::{OutlinePart, has_no_prime_part};
 use md_script::{Edit, EditReason, HistoryOf, Item, inverse, reason, take_back};
 use md_tree::{Kind, Tree};
 use std::alloc::Global;

@@ -1,6 +1,6 @@
--- The parts of a tree so far, and the outlines of the trees that wait.
-use Rattle.std.proofs.Common.{◌≡◌, ℕ, ◌+◌, ◌<◌, ◌≤◌, ◌^◌, List, [], ◌∷◌, ◌++◌, length, get_or, drop, map, reverse, sym, ◌∙◌, ap, arith, append_assoc, append-nil, length-append}
-use Rattle.std.proofs.lemmas.List.{map-append, length-map, reverse-append, reverse-reverse, drop_all, at_drop_more}
+-- The outlines of trees in a row; the parts of a tree so far, and the outlines of the trees that wait.
+use Rattle.std.proofs.Common.{◌≡◌, ℕ, ◌+◌, ◌<◌, ◌≤◌, ◌^◌, List, [], ◌∷◌, ◌++◌, length, get_or, drop, map, reverse, refl, sym, ◌∙◌, ap, arith, append_assoc, append-nil, length-append}
+use Rattle.std.proofs.lemmas.List.{map-append, reverse-append, reverse-reverse, drop_all, at_drop_more}
 use Rattle.std.specs.Borrow.{Bor}
 use Rattle.md_tree.specs.declared.Kind.{Kind}
 use Rattle.md_tree.specs.declared.Pair.{Pair}
@@ -9,14 +9,24 @@ use Rattle.md_tree.specs.declared.ChildrenOf.{ChildrenOf}
 use Rattle.md_tree.specs.declared.PairsOf.{PairsOf}
 use Rattle.md_tree.specs.Plain.{plain, trees_of}
 use Rattle.md_tree.specs.Parts.{plain_at}
-use Rattle.md_tree.specs.Trees.{PlainTree, leaf, node, PlainTrees, no_tree, one_more, count, row}
-use Rattle.md_tree.proofs.Folding.{count_row}
+use Rattle.md_tree.specs.Trees.{PlainTreeOf, PlainTree, leaf, node, PlainTrees, no_tree, one_more, count, row}
+use Rattle.md_tree.proofs.Loops.{count_plain}
 use Rattle.md_tree.proofs.Plain.{plain_is_leaf, plain_is_node}
 use Rattle.md_outline.specs.declared.outline.OutlinePart.{OutlinePart}
 use Rattle.md_outline.specs.declared.outline.OutlinePart.TheVariants.{Name, Node}
 use Rattle.md_outline.specs.Outlines.{outline_of, row_outline}
-use Rattle.md_cotree.specs.OutlineParts.{waiting_outline}
-use Rattle.md_cotree.proofs.OutlineTrees.{outline_both}
+use Rattle.md_outline.specs.OutlineParts.{waiting_outline}
+
+pub map_reverse : {A B : Type 0} (f : A → B) (xs : List A) → map f (reverse xs) ≡ reverse (map f xs)
+map_reverse f [] = refl
+map_reverse f (x ∷ xs) =
+    ap (map f) (reverse-append (x ∷ []) xs) ∙ map-append f (reverse xs) (x ∷ []) ∙ ap (λ ys. ys ++ f x ∷ []) (map_reverse f xs) ∙ sym (reverse-append (f x ∷ []) (map f xs))
+
+pub outline-append : {K P : Type 0} (xs ys : List (PlainTreeOf K P)) → row_outline (row (xs ++ ys)) ≡ row_outline (row xs) ++ row_outline (row ys)
+outline-append [] ys = refl
+outline-append (x ∷ xs) ys = ap (λ ps. outline_of x ++ ps) (outline-append xs ys) ∙ sym (append_assoc (outline_of x) (row_outline (row xs)) (row_outline (row ys)))
+
+-- ---- the trees that wait
 
 last_waits : (waiting popped : List (Bor (TreeOf Kind Pair))) (one : Bor (TreeOf Kind Pair)) → waiting ≡ popped ++ one ∷ [] → waiting_outline waiting ≡ outline_of (plain_at one) ++ waiting_outline popped
 last_waits waiting popped one pop =
@@ -65,22 +75,19 @@ module _ (t : TreeOf Kind Pair) (k : Kind) (cs : ChildrenOf Kind Pair) (es : Pai
   abbrev zs : List PlainTree
   zs = map plain (trees_of cs)
 
-  counted : count (row (map plain (trees_of cs))) ≡ length (trees_of cs)
-  counted = count_row (map plain (trees_of cs)) ∙ length-map (trees_of cs) plain
-
   pub few_below : length (outline_of (plain t)) < 2 ^ 32 → length (trees_of cs) < 2 ^ 32
   few_below short =
-      let e = ap (λ p. length (outline_of p)) (plain_is_node t k cs es is) in let a = row_long (row (map plain (trees_of cs))) in let n = counted in
+      let e = ap (λ p. length (outline_of p)) (plain_is_node t k cs es is) in let a = row_long (row (map plain (trees_of cs))) in let n = count_plain (trees_of cs) in
       omega arith
 
   pub node_waits : (n : ℕ) → n ≡ length (trees_of cs) → (old new : List (Bor (TreeOf Kind Pair))) → map plain_at new ≡ map plain_at old ++ reverse (map plain (trees_of cs)) →
       Node k n ∷ waiting_outline new ≡ outline_of (plain t) ++ waiting_outline old
   node_waits n long old new below =
-      ap (λ m. Node k m ∷ waiting_outline new) (long ∙ sym counted)
+      ap (λ m. Node k m ∷ waiting_outline new) (long ∙ sym (count_plain (trees_of cs)))
       ∙ ap (λ ts. Node k (count (row zs)) ∷ row_outline (row (reverse ts))) below
       ∙ ap (λ ts. Node k (count (row zs)) ∷ row_outline (row ts)) (reverse-append (map plain_at old) (reverse zs))
       ∙ ap (λ ts. Node k (count (row zs)) ∷ row_outline (row (ts ++ reverse (map plain_at old)))) (reverse-reverse zs)
-      ∙ ap (λ ps. Node k (count (row zs)) ∷ ps) (outline_both zs (reverse (map plain_at old)))
+      ∙ ap (λ ps. Node k (count (row zs)) ∷ ps) (outline-append zs (reverse (map plain_at old)))
       ∙ sym (ap (λ p. outline_of p ++ waiting_outline old) (plain_is_node t k cs es is))
 
 pub leaf_waits : (t : TreeOf Kind Pair) (v : ℕ) (old : List (Bor (TreeOf Kind Pair))) → t ≡ Leaf v → Name v ∷ waiting_outline old ≡ outline_of (plain t) ++ waiting_outline old

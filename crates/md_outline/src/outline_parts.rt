@@ -1,4 +1,4 @@
-//! Outlines of trees, and whether one has a prime node. Nothing here speaks of cotrees.
+//! The outline that is read off a tree, and whether an outline has a prime part.
 ghost use Rattle.std.specs.Prelude.{◌≡◌, ◌<◌, ◌^◌, ◌++◌, ◌∷◌, [], ◌↔◌, map, reverse, length, IfOk, IsTrue};
 ghost use Rattle.std.specs.List.{All};
 ghost use Rattle.md_tree.specs.Plain.{plain, trees_of};
@@ -6,10 +6,10 @@ ghost use Rattle.md_tree.specs.Parts.{plain_at};
 ghost use Rattle.md_tree.specs.declared.Kind.{Kind};
 ghost use Rattle.md_outline.specs.declared.outline.OutlinePart.{OutlinePart};
 ghost use Rattle.md_outline.specs.Outlines.{outline_of};
-ghost use Rattle.md_cotree.specs.OutlineParts.{waiting_outline, IsNoPrimePart};
+ghost use Rattle.md_outline.specs.OutlineParts.{waiting_outline, IsNoPrimePart};
 
+use crate::OutlinePart;
 use md_graph::Memory;
-use md_outline::OutlinePart;
 use md_tree::{Children, Kind, Tree};
 use std::alloc::Global;
 
@@ -35,11 +35,11 @@ fn is_no_prime(part: OutlinePart<Kind>) -> bool
     }
 }
 
-// The outline of a tree. No call nests as deep as the tree. Condition: it has fewer than 2^32
-// parts.
-pub(crate) fn tree_outline(alloc: Global, tree: &Tree) -> Result<Vec<OutlinePart<Kind>>, Memory>
-    requires { length (outline_of (plain tree.now)) < 2 ^ 32 }
-    ensures { IfOk result (λ parts. parts.items ≡ outline_of (plain tree.now)) }
+/// The outline of a tree. No call nests as deep as the tree. Condition: the outline has fewer than
+/// 2^32 parts. Errors: want of memory.
+pub fn tree_outline(alloc: Global, tree: &Tree) -> Result<Vec<OutlinePart<Kind>>, Memory>
+    requires short { length (outline_of (plain tree.now)) < 2 ^ 32 }
+    ensures outline { IfOk result (λ parts. parts.items ≡ outline_of (plain tree.now)) }
 {
     let mut parts = Vec::new(alloc);
     let mut waiting = Vec::new(alloc);

@@ -1,7 +1,7 @@
 use Rattle.std.proofs.Common.{arith}
 use Rattle.md_tree.proofs.Stacking.{if_ok}
-use Rattle.md_cotree.proofs.TreeOutlines.{few_below, node_waits, leaf_waits}
-use Rattle.md_cotree.proofs.outline_parts.push_node.Goals as goal
+use Rattle.md_outline.proofs.TreeOutlines.{few_below, node_waits, leaf_waits}
+use Rattle.md_outline.proofs.outline_parts.push_node.Goals as goal
 
 pub overflow_cast-len : goal.overflow_cast-len
 overflow_cast-len c =

@@ -1,8 +1,8 @@
 use Rattle.std.proofs.Common.{◌≡◌, ◌++◌, length}
 use Rattle.md_tree.specs.Plain.{plain}
 use Rattle.md_outline.specs.Outlines.{outline_of}
-use Rattle.md_cotree.specs.OutlineParts.{waiting_outline}
-use Rattle.md_cotree.proofs.outline_parts.tree_outline.Given as goal
+use Rattle.md_outline.specs.OutlineParts.{waiting_outline}
+use Rattle.md_outline.proofs.outline_parts.tree_outline.Given as goal
 
 abbrev pub invariant-loop-node : goal.invariant-loop-node
 invariant-loop-node l = l.parts.items ++ waiting_outline l.waiting.items ≡ outline_of (plain l.tree)

@@ -1,8 +1,8 @@
 use Rattle.std.proofs.Common.{◌≡◌, ◌<◌, ◌+◌, ◌-◌, ◌++◌, map, reverse, drop, length, ◌∙◌, subst, arith}
 use Rattle.md_tree.specs.Plain.{plain, trees_of}
 use Rattle.md_tree.specs.Parts.{plain_at}
-use Rattle.md_cotree.proofs.TreeOutlines.{back_begin, back_more}
-use Rattle.md_cotree.proofs.outline_parts.push_children_backward.Goals as goal
+use Rattle.md_outline.proofs.TreeOutlines.{back_begin, back_more}
+use Rattle.md_outline.proofs.outline_parts.push_children_backward.Goals as goal
 
 pub loop-i-init : goal.loop-i-init
 loop-i-init c = back_begin _ _ _ (c.len-i.ensures ∙ c.args.children.now.list.ok.0)

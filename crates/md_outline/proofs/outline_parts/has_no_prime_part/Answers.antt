@@ -2,8 +2,8 @@ use Rattle.std.proofs.Common.{take, sym, subst, rules}
 use Rattle.std.specs.List.{All}
 use Rattle.std.proofs.lemmas.List.{take_all, take_more}
 use Rattle.std.proofs.lemmas.List.Elements.{All-push}
-use Rattle.md_cotree.specs.OutlineParts.{IsNoPrimePart}
-use Rattle.md_cotree.proofs.outline_parts.has_no_prime_part.Goals as goal
+use Rattle.md_outline.specs.OutlineParts.{IsNoPrimePart}
+use Rattle.md_outline.proofs.outline_parts.has_no_prime_part.Goals as goal
 
 pub loop-part-preserved : goal.loop-part-preserved
 loop-part-preserved c =
