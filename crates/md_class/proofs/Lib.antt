@@ -1,3 +1,2 @@
 mod ClassGraphs
 mod ClassItems
-mod InnerRows

@@ -14,8 +14,8 @@ ghost use Rattle.md_class.specs.ClassAnswers.{IsFitOf, IsClassAnswered, IsGroupE
 ghost use Rattle.md_class.specs.ItemAnswers.{IsItemAnswer};
 
 use crate::answers::{ItemAnswer, Told, told_of};
-use crate::few_inner::has_few_inner;
 use md_bar::{Bar, BarKind, Class, ClassLine, bar_of};
+use md_bar_tree::has_few_inner;
 use md_cograph::{change, change_back, p4_behind, take_back_item};
 use md_cotree::Cotree;
 use md_graph::{GraphOf, Memory, Steps};

@@ -3,7 +3,6 @@
 #![tactic(auto)]
 
 mod answers;
-mod few_inner;
 mod items;
 mod session;
 mod undoing;

@@ -11,7 +11,7 @@ outline-requires c = let den = c.requires.1 in record { sound = (den.0, den.1) }
 pub returns-then-branch : goal.returns-then-branch
 returns-then-branch c = λ h den.
     let told = c.in_ok-parts.ensures.outline h den in
-    let few = (c.in_ok-has_few_inner.ensures told.0 (c.deref.ensures.value ∙ told.2)).0 c.if-branch.true in (
+    let few = (c.in_ok-has_few_inner.ensures.exactly told.0 (c.deref.ensures.value ∙ told.2)).0 c.if-branch.true in (
       few_allowed c.args.class c.args.tree.now h told.0 den told.1 few,
       (told.0, told.1, subst (λ (b : Bool). Tells b told.0 (Outline c.in_ok-parts.parts)) (sym c.if-whole.false) told.2),
     )

@@ -7,9 +7,9 @@ use Rattle.md_outline.specs.declared.outline.OutlinePart.{OutlinePart}
 use Rattle.md_outline.specs.Outlines.{outline_of, row_outline}
 use Rattle.md_bar_tree.specs.declared.Class.{Class}
 use Rattle.md_bar_tree.specs.Inner.{AreLeaves, HasOneInner, HasFewInner, HaveFewInner}
-use Rattle.md_class.specs.declared.few_inner.InnerRoom.{InnerRoom}
-use Rattle.md_class.specs.declared.few_inner.InnerRoom.TheVariants.{Any, One, NoMore}
-use Rattle.md_class.specs.declared.few_inner.Row.{Row}
+use Rattle.md_bar_tree.specs.declared.few_inner.InnerRoom.{InnerRoom}
+use Rattle.md_bar_tree.specs.declared.few_inner.InnerRoom.TheVariants.{Any, One, NoMore}
+use Rattle.md_bar_tree.specs.declared.few_inner.Row.{Row}
 
 -- no more of the trees are inner than may be
 abbrev pub MayBe : InnerRoom → PlainTrees → Type 0

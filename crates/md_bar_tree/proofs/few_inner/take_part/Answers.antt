@@ -1,8 +1,8 @@
 use Rattle.std.proofs.Common.{◌∷◌, sym, ◌∙◌, subst}
 use Rattle.std.proofs.lemmas.List.{nil_from_length}
-use Rattle.md_class.specs.InnerRows.{AreComing}
-use Rattle.md_class.proofs.InnerRows.{none_kept, name_taken, node_taken, node_refused}
-use Rattle.md_class.proofs.few_inner.take_part.Goals as goal
+use Rattle.md_bar_tree.specs.InnerRows.{AreComing}
+use Rattle.md_bar_tree.proofs.InnerRows.{none_kept, name_taken, node_taken, node_refused}
+use Rattle.md_bar_tree.proofs.few_inner.take_part.Goals as goal
 
 pub returns-in_default : goal.returns-in_default
 returns-in_default c t others coming =

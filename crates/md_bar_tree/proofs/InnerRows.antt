@@ -1,5 +1,5 @@
 -- One part more of an outline, in which the inner children of each node are counted.
-use Rattle.std.proofs.Common.{◌≡◌, ◌↔◌, ℕ, suc, true, List, [], ◌∷◌, ◌++◌, length, Option, Some, None, append_assoc, append-nil, refl, sym, ◌∙◌, ap, subst, arith}
+use Rattle.std.proofs.Common.{◌≡◌, ◌↔◌, ℕ, true, List, [], ◌∷◌, ◌++◌, Option, Some, None, append_assoc, append-nil, refl, sym, ◌∙◌, ap, subst}
 use Rattle.std.proofs.lemmas.List.{same_from_push}
 use Rattle.md_tree.specs.declared.Kind.{Kind}
 use Rattle.md_tree.specs.Trees.{PlainTree, leaf, node, PlainTrees, no_tree, one_more, count}
@@ -10,19 +10,16 @@ use Rattle.md_outline.specs.Outlines.{outline_of, row_outline, outline_option}
 use Rattle.md_bar_tree.specs.declared.Class.{Class}
 use Rattle.md_bar_tree.specs.Inner.{IsInnerTree, HasOneInner, IsNarrow, HasFewInner, HaveFewInner, HasFewInnerIn}
 use Rattle.md_bar_tree.proofs.BarLaw.{one_of_leaves}
-use Rattle.md_class.specs.declared.few_inner.InnerRoom.{InnerRoom}
-use Rattle.md_class.specs.declared.few_inner.InnerRoom.TheVariants.{Any, One, NoMore}
-use Rattle.md_class.specs.declared.few_inner.Row.{Row}
-use Rattle.md_class.specs.InnerRows.{MayBe, MayBeIn, ComingRow, kept_row, kept_rows, with_row, rows_left, HaveInnerRoom, AreComing}
+use Rattle.md_bar_tree.specs.declared.few_inner.InnerRoom.{InnerRoom}
+use Rattle.md_bar_tree.specs.declared.few_inner.InnerRoom.TheVariants.{Any, One, NoMore}
+use Rattle.md_bar_tree.specs.declared.few_inner.Row.{Row}
+use Rattle.md_bar_tree.specs.InnerRows.{MayBe, MayBeIn, ComingRow, kept_row, kept_rows, with_row, rows_left, HaveInnerRoom, AreComing}
 
 -- ---- the end of an outline
 
-no_part : (part : OutlinePart Kind) (others : List (OutlinePart Kind)) → part ∷ others ≡ [] → ⊥
-no_part part others f = let l : suc (length others) ≡ 0 = ap length f in omega arith
-
 no_outline : (t : PlainTree) (l : List (OutlinePart Kind)) → [] ≡ outline_of t ++ l → ⊥
-no_outline (leaf w) l f = no_part (Name w) l (sym f)
-no_outline (node k cs ps) l f = no_part (Node k (count cs)) (row_outline cs ++ l) (sym f)
+no_outline (leaf w) l f = let g : [] ≡ Name w ∷ l = f in cc
+no_outline (node k cs ps) l f = let g : [] ≡ Node k (count cs) ∷ (row_outline cs ++ l) = f in cc
 
 -- ---- how many may be inner
 
@@ -64,7 +61,7 @@ module _ (class : Class) (t : PlainTree) (others : List (OutlinePart Kind)) (kep
   none_kept part none coming = by_rows coming.rows coming.kept_are coming.parts_are
     where
       by_rows : (rows : List ComingRow) → kept ≡ kept_rows rows → part ∷ others ≡ rows_left rows → ⊥
-      by_rows [] kept_are parts_are = no_part part others parts_are
+      by_rows [] kept_are parts_are = let f : part ∷ others ≡ [] = parts_are in cc
       by_rows (r ∷ rs) kept_are parts_are = no_snoc (kept_rows rs) (kept_row r) (sym none ∙ kept_are)
 
   module _ (front : List Row) (row : Row) (cut : kept ≡ front ++ row ∷ []) where
@@ -83,7 +80,7 @@ module _ (class : Class) (t : PlainTree) (others : List (OutlinePart Kind)) (kep
     last_row part coming = by_rows coming.rows coming.kept_are coming.parts_are coming.same
       where
         by_rows : (rows : List ComingRow) → kept ≡ kept_rows rows → part ∷ others ≡ rows_left rows → HaveInnerRoom class rows ↔ HasFewInner class t → IsLast part
-        by_rows [] kept_are parts_are same = absurd (no_part part others parts_are)
+        by_rows [] kept_are parts_are same = let f : part ∷ others ≡ [] = parts_are in absurd (cc)
         by_rows (r ∷ rs) kept_are parts_are same =
             let ends : (front ≡ kept_rows rs) × (row ≡ kept_row r) = same_from_push front (kept_rows rs) row (kept_row r) (sym cut ∙ kept_are) in
             record {

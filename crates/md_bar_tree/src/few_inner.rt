@@ -5,9 +5,9 @@ ghost use Rattle.md_tree.specs.Trees.{PlainTree, PlainTrees, one_more};
 ghost use Rattle.md_outline.specs.declared.outline.OutlinePart.{OutlinePart};
 ghost use Rattle.md_outline.specs.Outlines.{outline_option};
 ghost use Rattle.md_bar_tree.specs.Inner.{IsInnerTree, HasOneInner, IsNarrow, HasFewInnerIn};
-ghost use Rattle.md_class.specs.InnerRows.{MayBe, MayBeIn, with_row, AreComing, HasGoneOn};
+ghost use Rattle.md_bar_tree.specs.InnerRows.{MayBe, MayBeIn, with_row, AreComing, HasGoneOn};
 
-use md_bar_tree::Class;
+use crate::Class;
 use md_graph::Memory;
 use md_outline::OutlinePart;
 use md_tree::Kind;
@@ -29,17 +29,18 @@ struct Row {
     behind: u32,
 }
 
-// Whether each series node of a tree, and for threshold graphs each parallel node, has at most one
-// child that is no leaf; or there is no tree. One pass over the outline, with a stack of the rows
-// of children that are still to come. Errors: want of memory.
-pub(crate) fn has_few_inner(
+/// Whether each series node of the tree with this outline, and for threshold graphs each parallel
+/// node, has at most one child that is no leaf; or there is no tree. No call nests as deep as the
+/// tree. Errors: want of memory.
+pub fn has_few_inner(
     alloc: Global,
     parts: &[OutlinePart<Kind>],
     class: Class,
 ) -> Result<bool, Memory>
-    ensures { IfOk result (λ few. (o : Option PlainTree) → parts.now ≡ outline_option o
+    ensures exactly { IfOk result (λ few. (o : Option PlainTree) → parts.now ≡ outline_option o
         → IsTrue few ↔ HasFewInnerIn class o) }
 {
+    // A stack of the rows of children that are still to come.
     let mut rows = Vec::new(alloc);
     push_row(&mut rows, InnerRoom::Any, 1)?;
     for part in parts {
