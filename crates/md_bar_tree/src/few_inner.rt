@@ -1,5 +1,5 @@
 //! Whether a tree has few inner children, told from its outline.
-ghost use Rattle.std.specs.Prelude.{◌≡◌, ◌↔◌, List, ◌∷◌, Option, IsTrue, IfOk, OnOk};
+ghost use Rattle.std.specs.Prelude.{◌≡◌, ◌↔◌, ◌<◌, List, ◌∷◌, length, vec_capacity, Option, IsTrue, IfOk, OnOk};
 ghost use Rattle.md_tree.specs.declared.Kind.{Kind};
 ghost use Rattle.md_tree.specs.Trees.{PlainTree, PlainTrees, one_more};
 ghost use Rattle.md_outline.specs.declared.outline.OutlinePart.{OutlinePart};
@@ -62,16 +62,30 @@ fn take_part(rows: &mut Vec<Row>, part: OutlinePart<Kind>, class: Class) -> Resu
         return Ok(true);
     };
     match part {
-        OutlinePart::Name(_) => push_row(rows, row.room, row.behind)?,
+        OutlinePart::Name(_) => put_back(rows, row.room, row.behind),
         OutlinePart::Node(kind, count) => {
             let Some(room) = room_behind(row.room) else {
                 return Ok(false);
             };
-            push_row(rows, room, row.behind)?;
+            put_back(rows, room, row.behind);
             push_row(rows, room_of(class, kind), count)?;
         }
     }
     Ok(true)
+}
+
+// Puts what is left of a row back in its place, if any of its children are left.
+fn put_back(rows: &mut Vec<Row>, room: InnerRoom, left: u32)
+    requires { length rows.old.items < vec_capacity rows.old }
+    ensures { rows.new.items ≡ with_row rows.old.items room left }
+{
+    if left == 0 {
+        return;
+    }
+    rows.push_reserved(Row {
+        room,
+        behind: left - 1,
+    });
 }
 
 // Puts a row of so many children behind the others, if there are any.

@@ -13,14 +13,14 @@ returns-in_default-room_behind c t others coming =
     node_refused c.args.class t others c.args.rows.now.items c.pop.new.self.items c.in-Some.row c.in-Some.ensures.items c.in-Node.kind c.in-Node.count
     c.in_default-room_behind.ensures (subst (λ p. AreComing c.args.class t (p ∷ others) c.args.rows.now.items) c.in-Node.is coming)
 
-pub returns-in_ok-push_row-in-Name : goal.returns-in_ok-push_row-in-Name
-returns-in_ok-push_row-in-Name c t others coming =
-    name_taken c.args.class t others c.args.rows.now.items c.pop.new.self.items c.in-Some.row c.in-Some.ensures.items c.in-Name.field-0 c.push_row.new.rows.items
-    c.in_ok-push_row-in-Name.ensures (subst (λ p. AreComing c.args.class t (p ∷ others) c.args.rows.now.items) c.in-Name.is coming)
+pub returns-in-Name : goal.returns-in-Name
+returns-in-Name c t others coming =
+    name_taken c.args.class t others c.args.rows.now.items c.pop.new.self.items c.in-Some.row c.in-Some.ensures.items c.in-Name.field-0 c.put_back.new.rows.items
+    c.put_back.ensures (subst (λ p. AreComing c.args.class t (p ∷ others) c.args.rows.now.items) c.in-Name.is coming)
 
-pub returns-in_ok-push_row-in-Node-2 : goal.returns-in_ok-push_row-in-Node-2
-returns-in_ok-push_row-in-Node-2 c t others coming =
+pub returns-in_ok-push_row-in-Node : goal.returns-in_ok-push_row-in-Node
+returns-in_ok-push_row-in-Node c t others coming =
     node_taken c.args.class t others c.args.rows.now.items c.pop.new.self.items c.in-Some.row c.in-Some.ensures.items c.in-Node.kind c.in-Node.count
-    c.in-Some-room_behind.room c.room_of.result c.push_row-in-Node.new.rows.items c.push_row-in-Node-2.new.rows.items
-    c.in-Some-room_behind.ensures c.room_of.ensures c.in_ok-push_row-in-Node.ensures c.in_ok-push_row-in-Node-2.ensures
+    c.in-Some-room_behind.room c.room_of.result c.put_back-in-Node.new.rows.items c.push_row.new.rows.items
+    c.in-Some-room_behind.ensures c.room_of.ensures c.put_back-in-Node.ensures c.in_ok-push_row-in-Node.ensures
     (subst (λ p. AreComing c.args.class t (p ∷ others) c.args.rows.now.items) c.in-Node.is coming)
