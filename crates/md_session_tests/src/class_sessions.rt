@@ -2,10 +2,12 @@
 ghost use Rattle.std.specs.Prelude.{◌≡◌, ◌<◌};
 
 use md_bar::{Bar, BarKind, Class, ClassLine};
-use md_class::{ClassOpened, ClassOpenedOf, ClassSession, ClassSessionOf};
+use md_class::{ClassAnswer, ClassOpened, ClassOpenedOf, ClassSession, ClassSessionOf};
 use md_graph::{Graph, GraphOf, Memory, Steps};
+use md_outline::OutlinePart;
 use md_report::{Line, write_line};
 use md_script::{Edit, History, HistoryOf, Item, Script, read_script};
+use md_tree::Kind;
 use std::alloc::Global;
 use std::marker::Brand;
 use std::process::Abort;
@@ -127,18 +129,27 @@ fn groups_and_undos(rt: HostRuntime) -> Result<(), Fail> {
     Ok(())
 }
 
-// A session with rows of one word, and an edit that would make a path of two edges.
-fn narrow_session<L: Ledger>(rt: &impl Abort, alloc: Global, blank: Blank) -> Result<(), Memory>
+// A session on a trivially perfect graph with four vertices and these edges, with rows of one word.
+fn narrow_session(
+    rt: &impl Abort,
+    alloc: Global,
+    edges: &[(u32, u32)],
+) -> Result<ClassSessionOf<1>, Memory> {
+    let graph = GraphOf::<1>::from_edges(alloc, 4, edges)?.expect(rt, "edges");
+    let ClassOpenedOf::Session(session) = ClassSessionOf::new(alloc, graph, Class::Trivial)? else {
+        panic!(rt; "no session");
+    };
+    Ok(session)
+}
+
+// An edit that would make a path of two edges.
+fn refused_edge<L: Ledger>(rt: &impl Abort, alloc: Global, blank: Blank) -> Result<(), Memory>
     requires name { blank.name ≡ L.name }
     requires parts { blank.parts ≡ L.parts }
     requires some { 0 < blank.parts }
 {
     let mut steps = Steps::<L>::new(blank);
-    let pair = GraphOf::<1>::from_edges(alloc, 4, &[(0, 1), (2, 3)])?.expect(rt, "edges");
-    let ClassOpenedOf::Session(mut session) = ClassSessionOf::new(alloc, pair, Class::Trivial)?
-    else {
-        panic!(rt; "no session");
-    };
+    let mut session = narrow_session(rt, alloc, &[(0, 1), (2, 3)])?;
     let mut history = HistoryOf::<1>::new(alloc)?;
     history.reserve(alloc, 2)?;
     let item = Item::One(Edit::AddEdge { u: 1, v: 2 });
@@ -146,7 +157,43 @@ fn narrow_session<L: Ledger>(rt: &impl Abort, alloc: Global, blank: Blank) -> Re
     check_line(rt, alloc, &line, "no p4 0 1 2 3")
 }
 
-// Graphs with a bar of each kind, and a session with rows of one word.
+// An edit that is answered by the outline of the tree P(S(P(0,2),1),3).
+fn outlined_edge<L: Ledger>(rt: &impl Abort, alloc: Global, blank: Blank) -> Result<(), Memory>
+    requires name { blank.name ≡ L.name }
+    requires parts { blank.parts ≡ L.parts }
+    requires some { 0 < blank.parts }
+{
+    let mut steps = Steps::<L>::new(blank);
+    let mut session = narrow_session(rt, alloc, &[(0, 1)])?;
+    let mut history = HistoryOf::<1>::new(alloc)?;
+    history.reserve(alloc, 2)?;
+    let item = Item::One(Edit::AddEdge { u: 1, v: 2 });
+    let answer = session.answer_item(alloc, &item, &mut history, &mut steps)?;
+    let ClassAnswer::Applied(parts) = answer else {
+        panic!(rt; "refused");
+    };
+    let expected = [
+        OutlinePart::Node(Kind::Parallel, 2),
+        OutlinePart::Node(Kind::Series, 2),
+        OutlinePart::Node(Kind::Parallel, 2),
+        OutlinePart::Name(0),
+        OutlinePart::Name(2),
+        OutlinePart::Name(1),
+        OutlinePart::Name(3),
+    ];
+    assert_eq!(rt; parts.as_slice(), expected.as_slice());
+    Ok(())
+}
+
+// Sessions with rows of one word.
+#[test]
+fn edges_of_narrow_sessions(rt: HostRuntime) -> Result<(), Fail> {
+    refused_edge::<Brand>(&rt, rt.alloc(), Blank::new(1))?;
+    outlined_edge::<Brand>(&rt, rt.alloc(), Blank::new(1))?;
+    Ok(())
+}
+
+// Graphs with a bar of each kind.
 #[test]
 fn first_graphs(rt: HostRuntime) -> Result<(), Fail> {
     let alloc = rt.alloc();
@@ -173,6 +220,5 @@ fn first_graphs(rt: HostRuntime) -> Result<(), Fail> {
         };
         assert_eq!(&rt; bar.kind, kind);
     }
-    narrow_session::<Brand>(&rt, alloc, Blank::new(1))?;
     Ok(())
 }
