@@ -225,8 +225,8 @@ fn step<const W: usize, L: Ledger>(
     requires near { 64 * W ≤ vec_capacity near.old }
     requires item { 0 < length history.old.items }
     requires room { 1 ≤ history.old.spare }
-    ensures answer { IsClassAnswered class whole graph.old edit.now history.old.items result graph.new
-        history.new.items }
+    ensures answer { IsClassAnswered class whole graph.old edit.now history.old.items result
+        graph.new history.new.items }
     ensures denotes { Denotes tree.new graph.new }
     ensures near { vec_capacity near.new ≡ vec_capacity near.old }
     ensures spare { history.old.spare ≤ history.new.spare + 1 }
