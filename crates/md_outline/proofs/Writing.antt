@@ -215,7 +215,7 @@ module _ (e : ℕ → ℕ → Bool) (s : NameSet) where
     first_is = let a = count_is in let b = held_size in omega arith
 
     own_heads : drop (length held - o.count) held ≡ head_list at.b.children
-    own_heads = ap (drop (length held - o.count)) at.held_are ∙ drop_at (heads_held at.outer) (head_list at.b.children) (length held - o.count) first_is
+    own_heads = ap (drop (length held - o.count)) at.held_are ∙ drop_at (heads_held at.outer) (head_list at.b.children) (length held - o.count) (sym first_is)
 
     pub heads_there : o.count ≤ length held
     heads_there = let a = count_is in let b = held_size in omega arith
