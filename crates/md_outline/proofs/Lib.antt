@@ -1,4 +1,5 @@
 pub mod HeadPairs
+pub mod Heads
 pub mod NodeRows
 pub mod Writing
 pub mod TreeOutlines
