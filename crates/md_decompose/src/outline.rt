@@ -30,32 +30,51 @@ pub fn graph_outline<const W: usize>(
     ensures outline { IfOk result (λ parts. (t : Option PlainTree)
         × IsTree (adjacent graph.now) graph.now.vertices t × (parts.items ≡ outline_option t)) }
 {
-    let names = graph.vertices();
-    let Some(_) = names.first_from(0) else {
-        return Ok(Vec::new(alloc));
-    };
-    outline_parts(alloc, graph, names)
+    let mut parts = Vec::new(alloc);
+    fill_outline(alloc, graph, &mut parts)?;
+    Ok(parts)
 }
 
-// The outline of the tree of the graph on the names, of which there is one. A prime graph has one
-// node more than vertices; room for so many is taken at once.
-fn outline_parts<const W: usize>(
+/// The same in place of the parts that are handed in, whose memory is kept. Errors: want of memory;
+/// some parts are left then.
+pub fn fill_outline<const W: usize>(
+    alloc: Global,
+    graph: &GraphOf<W>,
+    parts: &mut Vec<OutlinePart<Kind>>,
+) -> Result<(), Memory>
+    ensures outline { IfOk result (λ _. (t : Option PlainTree)
+        × IsTree (adjacent graph.now) graph.now.vertices t
+        × (parts.new.items ≡ outline_option t)) }
+{
+    parts.clear();
+    let names = graph.vertices();
+    let Some(_) = names.first_from(0) else {
+        return Ok(());
+    };
+    lay_parts(alloc, graph, names, parts)
+}
+
+// The outline of the tree of the graph on the names, of which there is one, where there are no parts
+// yet. A prime graph has one part more than vertices; room for so many is taken at once.
+fn lay_parts<const W: usize>(
     alloc: Global,
     graph: &GraphOf<W>,
     names: &Set<W>,
-) -> Result<Vec<OutlinePart<Kind>>, Memory>
+    parts: &mut Vec<OutlinePart<Kind>>,
+) -> Result<(), Memory>
     requires some { HasSome names.now }
     requires inside { Within names.now graph.now.vertices }
-    ensures { IfOk result (λ parts. (t : PlainTree)
-        × IsTreeOf (adjacent graph.now) names.now t × (parts.items ≡ outline_of t)) }
+    requires none { parts.old.items ≡ [] }
+    ensures { IfOk result (λ _. (t : PlainTree)
+        × IsTreeOf (adjacent graph.now) names.now t × (parts.new.items ≡ outline_of t)) }
 {
     let _vertices = graph.vertices();
-    let mut parts = Vec::with_capacity(alloc, names.count() as usize + 1)?;
+    parts.reserve(names.count() as usize + 1)?;
     let mut waiting = first_open(alloc, names)?;
     while let Some(next) = waiting.pop() {
-        outline_apart(alloc, graph, next, &mut parts, &mut waiting)?;
+        outline_apart(alloc, graph, next, parts, &mut waiting)?;
     }
-    Ok(parts)
+    Ok(())
 }
 
 // The part of what waited comes behind the parts so far, then its first children as long as they

@@ -5,12 +5,12 @@ use Rattle.md_modules.proofs.Turns.{graph_adjacency}
 use Rattle.md_outline.specs.Outlines.{outline_of}
 use Rattle.md_decompose.proofs.Turned.{outlines_laid}
 use Rattle.md_decompose.proofs.Opened.{IsReady, opened_begin, next_ready, outlined_falls, outlined_more, opened_end}
-use Rattle.md_decompose.proofs.outline.outline_parts.Goals as goal
+use Rattle.md_decompose.proofs.outline.lay_parts.Goals as goal
 
 pub loop-next-init : goal.loop-next-init
 loop-next-init g c =
-    opened_begin (graph_adjacency c.vertices-vertices.ensures.graph) outlines_laid c.args.names.now c.in_ok-waiting.waiting.items c.in_ok-parts.parts.items c.requires.some
-    c.in_ok-waiting.ensures c.in_ok-parts.ensures.items
+    opened_begin (graph_adjacency c.vertices-vertices.ensures.graph) outlines_laid c.args.names.now c.in_ok-waiting.waiting.items c.reserve.new.self.items c.requires.some
+    c.in_ok-waiting.ensures (c.in_ok-reserve.ensures.items ∙ c.requires.none)
 
 pub outline_apart-requires : goal.outline_apart-requires
 outline_apart-requires g c =
