@@ -47,6 +47,8 @@ impl LineSpace {
 
 /// Puts the report of a mode over the graphs of a file, which is read under the limit of names of
 /// the mode.
+// Never inlined, so that the stack holds the frame of one kind of reports alone.
+#[inline(never)]
 pub fn report<O: Sink>(
     alloc: Global,
     mode: GraphMode,
@@ -134,7 +136,9 @@ fn spell_room(
     }
 }
 
-// Spells the line that reports a graph, with its line feed.
+// Spells the line that reports a graph, with its line feed. Never inlined, so that the stack holds
+// the frame of one width alone.
+#[inline(never)]
 fn spell<const W: usize>(
     alloc: Global,
     mode: GraphMode,

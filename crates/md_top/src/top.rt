@@ -168,6 +168,8 @@ fn end<F: Files, O: Sink>(
 
 // Runs the session over the edits that a number of names gives; no file is asked for.
 // Condition: the number is at most `BIGGEST`.
+// Never inlined, so that the stack holds the frame of one command alone.
+#[inline(never)]
 fn end_big<F: Files, O: Sink>(
     alloc: Global,
     size: u32,
@@ -184,6 +186,8 @@ fn end_big<F: Files, O: Sink>(
 }
 
 // Loads the graph file, and puts the text of each graph in a format.
+// Never inlined, so that the stack holds the frame of one command alone.
+#[inline(never)]
 fn end_convert<F: Files, O: Sink>(
     alloc: Global,
     to: Format,
@@ -202,6 +206,8 @@ fn end_convert<F: Files, O: Sink>(
 }
 
 // Loads the files of a subject, and puts the report over it.
+// Never inlined, so that the stack holds the frame of one command alone.
+#[inline(never)]
 fn end_report<F: Files, O: Sink>(
     alloc: Global,
     subject: Subject<&str>,
@@ -218,6 +224,8 @@ fn end_report<F: Files, O: Sink>(
 }
 
 // Loads the files of a subject and the report, and checks the report.
+// Never inlined, so that the stack holds the frame of one command alone.
+#[inline(never)]
 fn end_check<F: Files, O: Sink>(
     alloc: Global,
     subject: Subject<&str>,
