@@ -167,8 +167,8 @@ fn end<F: Files, O: Sink>(
 }
 
 // Runs the session over the edits that a number of names gives; no file is asked for.
-// Condition: the number is at most `BIGGEST`.
-// Never inlined, so that the stack holds the frame of one command alone.
+// Condition: the number is at most `BIGGEST`. Never inlined, so that the stack holds the frame of
+// one command alone.
 #[inline(never)]
 fn end_big<F: Files, O: Sink>(
     alloc: Global,
@@ -185,8 +185,7 @@ fn end_big<F: Files, O: Sink>(
     big(alloc, size, out)
 }
 
-// Loads the graph file, and puts the text of each graph in a format.
-// Never inlined, so that the stack holds the frame of one command alone.
+// Loads the graph file, and puts the text of each graph in a format. Never inlined, as above.
 #[inline(never)]
 fn end_convert<F: Files, O: Sink>(
     alloc: Global,
@@ -205,8 +204,7 @@ fn end_convert<F: Files, O: Sink>(
     convert(alloc, from, to, &file, out)
 }
 
-// Loads the files of a subject, and puts the report over it.
-// Never inlined, so that the stack holds the frame of one command alone.
+// Loads the files of a subject, and puts the report over it. Never inlined, as above.
 #[inline(never)]
 fn end_report<F: Files, O: Sink>(
     alloc: Global,
@@ -223,8 +221,7 @@ fn end_report<F: Files, O: Sink>(
     report_of_subject(alloc, &loaded, out)
 }
 
-// Loads the files of a subject and the report, and checks the report.
-// Never inlined, so that the stack holds the frame of one command alone.
+// Loads the files of a subject and the report, and checks the report. Never inlined, as above.
 #[inline(never)]
 fn end_check<F: Files, O: Sink>(
     alloc: Global,
