@@ -15,7 +15,7 @@ ghost use Rattle.md_script.specs.Histories.{HistoryFits};
 ghost use Rattle.md_script.specs.Items.{HasItemNamesBelow};
 ghost use Rattle.md_top.specs.Sinks.{sink_run, PutsLines};
 
-use crate::put::{applied_text_by_rows, fed, put_report_line, put_text};
+use crate::put::{applied_text_by_rows, fed, put_report_line, put_text, tree_text_by_rows};
 use crate::stop::PutStop;
 use crate::undos::{forget_unreached, undos_behind};
 use md_bar::{Bar, Class, ClassLine, write_class};
@@ -23,7 +23,7 @@ use md_class::{ClassAnswer, ClassOpenedOf, ClassSessionOf};
 use md_graph::{GraphOf, Memory, Steps};
 use md_io::Sink;
 use md_outline::RowSpace;
-use md_report::{Line, write_tree_by_rows};
+use md_report::Line;
 use md_script::{HistoryOf, Item, Script};
 use std::alloc::Global;
 use std::sync::ledger::Ledger;
@@ -89,7 +89,7 @@ fn tree_text<const W: usize>(alloc: Global, session: &ClassSessionOf<W>) -> Resu
         × (text.items ≡ fed_line (lines.tree t))) }
 {
     let parts = session.outline(alloc)?;
-    fed(write_tree_by_rows(alloc, &parts, session.graph(), &mut RowSpace::new(alloc))?)
+    tree_text_by_rows(alloc, &parts, session.graph(), &mut RowSpace::new(alloc))
 }
 
 // Puts the line of each item, and the last line. Conditions: the graph is of the class, and the

@@ -19,13 +19,15 @@ ghost use Rattle.md_top.specs.CographModes.{cograph_mode};
 ghost use Rattle.md_top.specs.ItemTexts.{IsItemText};
 ghost use Rattle.md_top.specs.Sinks.{sink_run, PutsLines};
 
-use crate::put::{applied_text_by_rows, fed, fed_text, put_item_text, put_report_line, put_text};
+use crate::put::{
+    applied_text_by_rows, fed_text, put_item_text, put_report_line, put_text, tree_text_by_rows,
+};
 use crate::stop::PutStop;
 use crate::undos::{forget_unreached, undos_behind};
 use md_graph::{GraphOf, Memory, Steps};
 use md_io::Sink;
 use md_outline::RowSpace;
-use md_report::{Line, write_tree_by_rows};
+use md_report::Line;
 use md_script::{HistoryOf, Item, Script};
 use md_session::{CographSessionOf, ItemAnswer, OpenedOf};
 use std::alloc::Global;
@@ -241,5 +243,5 @@ fn tree_text<const W: usize>(
         × (text.items ≡ fed_line (lines.tree t))) }
 {
     let parts = session.outline(alloc)?;
-    fed(write_tree_by_rows(alloc, &parts, session.graph(), space)?)
+    tree_text_by_rows(alloc, &parts, session.graph(), space)
 }

@@ -14,7 +14,7 @@ use crate::stop::PutStop;
 use md_graph::{GraphOf, Memory};
 use md_io::Sink;
 use md_outline::{OutlinePart, RowSpace, push_text_by_rows};
-use md_report::{Line, write_line};
+use md_report::{Line, push_tree_by_rows, write_line};
 use md_tree::Kind;
 use std::alloc::Global;
 
@@ -75,6 +75,25 @@ pub fn fed(text: Vec<u8>) -> Result<Vec<u8>, Memory>
     let mut whole = text;
     whole.push(b'\n')?;
     Ok(whole)
+}
+
+/// The text of the line of the tree of a graph, from the outline of that tree, with its line feed.
+/// Condition: it is such an outline.
+pub fn tree_text_by_rows<const W: usize>(
+    alloc: Global,
+    parts: &[OutlinePart<Kind>],
+    graph: &GraphOf<W>,
+    space: &mut RowSpace,
+) -> Result<Vec<u8>, Memory>
+    requires { (t : Option PlainTree) × IsTree (adjacent graph.now) graph.now.vertices t
+        × (parts.now ≡ outline_option t) }
+    ensures { (t : Option PlainTree) → IsTree (adjacent graph.now) graph.now.vertices t
+        → parts.now ≡ outline_option t
+        → IfOk result (λ text. text.items ≡ fed_line (lines.tree t)) }
+{
+    let mut text = Vec::new(alloc);
+    push_tree_by_rows(&mut text, parts, graph, space)?;
+    fed(text)
 }
 
 /// The text of the line that an item was applied and left the tree of a graph, from the outline of

@@ -3,15 +3,14 @@ use Rattle.std.proofs.lemmas.List.{nil_from_length}
 use Rattle.md_graph.specs.PlainGraph.{adjacent}
 use Rattle.md_modules.proofs.Turns.{graph_adjacency}
 use Rattle.md_outline.specs.Outlines.{outline_of}
-use Rattle.md_decompose.specs.Turns.{open_names, IsOutlinePartOf}
 use Rattle.md_decompose.proofs.Turned.{outlines_laid}
-use Rattle.md_decompose.proofs.Opened.{IsReady, outline_division, opened_begin, next_ready, turn_falls, opened_more, opened_end}
-use Rattle.md_decompose.proofs.outline.outline_parts.Goals as goal
+use Rattle.md_decompose.proofs.Opened.{IsReady, opened_begin, next_ready, outlined_falls, outlined_more, opened_end}
+use Rattle.md_decompose.proofs.outline.lay_parts.Goals as goal
 
 pub loop-next-init : goal.loop-next-init
 loop-next-init g c =
-    opened_begin (graph_adjacency c.vertices-vertices.ensures.graph) outlines_laid c.args.names.now c.in_ok-waiting.waiting.items c.in_ok-parts.parts.items c.requires.some
-    c.in_ok-waiting.ensures c.in_ok-parts.ensures.items
+    opened_begin (graph_adjacency c.vertices-vertices.ensures.graph) outlines_laid c.args.names.now c.in_ok-waiting.waiting.items c.reserve.new.self.items c.requires.some
+    c.in_ok-waiting.ensures (c.in_ok-reserve.ensures.items ∙ c.requires.none)
 
 pub outline_apart-requires : goal.outline_apart-requires
 outline_apart-requires g c =
@@ -26,8 +25,7 @@ loop-next-smaller g c =
     let parts = c.loop-next.parts.items in
     let next = c.in-Some.next in
     let ready = next_ready adj outlines_laid c.args.names.now parts c.loop-next.waiting.items c.pop.new.self.items next c.loop-next.invariant c.in-Some.ensures.items in
-    turn_falls adj outlines_laid c.args.names.now parts c.loop-next.waiting.items c.pop.new.self.items next c.loop-next.invariant c.in-Some.ensures.items
-    (IsOutlinePartOf (adjacent c.args.graph.now) (open_names next)) (λ p added. outline_division adj (open_names next) p added ready.some)
+    outlined_falls adj c.args.names.now parts c.loop-next.waiting.items c.pop.new.self.items next c.loop-next.invariant c.in-Some.ensures.items ready.some
     c.outline_apart.new.parts.items c.outline_apart.new.waiting.items c.in_ok-outline_apart.ensures
 
 pub loop-next-preserved : goal.loop-next-preserved
@@ -36,8 +34,7 @@ loop-next-preserved g c =
     let parts = c.loop-next.parts.items in
     let next = c.in-Some.next in
     let ready = next_ready adj outlines_laid c.args.names.now parts c.loop-next.waiting.items c.pop.new.self.items next c.loop-next.invariant c.in-Some.ensures.items in
-    opened_more adj outlines_laid c.args.names.now parts c.loop-next.waiting.items c.pop.new.self.items next c.loop-next.invariant c.in-Some.ensures.items
-    (IsOutlinePartOf (adjacent c.args.graph.now) (open_names next)) (λ p added. outline_division adj (open_names next) p added ready.some)
+    outlined_more adj c.args.names.now parts c.loop-next.waiting.items c.pop.new.self.items next c.loop-next.invariant c.in-Some.ensures.items ready.some
     c.outline_apart.new.parts.items c.outline_apart.new.waiting.items c.in_ok-outline_apart.ensures
 
 pub returns : goal.returns
