@@ -14,7 +14,7 @@ use Rattle.md_text.specs.declared.piece.Piece.{Piece}
 use Rattle.md_text.specs.Numbers.{decimal}
 use Rattle.md_text.specs.Pieces.{text_at, texts_at}
 use Rattle.md_text.proofs.Lists.{In, to_pairs, of_contains}
-use Rattle.md_dimacs.proofs.BlockLemmas.{texts_append}
+use Rattle.md_blocks.proofs.BlockLemmas.{texts_append}
 use Rattle.md_tree.specs.Held.{Ascends, MayListIf}
 use Rattle.md_tree.specs.Spellings.{PairRules, ArePairRules, IsPairBeforeBy}
 use Rattle.md_tree.specs.TreeTexts.{pairs_text_by}

@@ -1,7 +1,7 @@
 use Rattle.std.proofs.Common.{◌∙◌, ◌-◌}
 use Rattle.md_graph.proofs.MemberLists.{high_bits}
-use Rattle.md_dimacs.proofs.BlockLemmas.{same_part}
-use Rattle.md_dimacs.proofs.blocks.bits_from.Goals as goal
+use Rattle.md_blocks.proofs.BlockLemmas.{same_part}
+use Rattle.md_blocks.proofs.blocks.bits_from.Goals as goal
 
 pub returns : goal.returns
 returns c k h =

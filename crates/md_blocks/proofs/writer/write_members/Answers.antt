@@ -1,0 +1,28 @@
+use Rattle.std.proofs.Common.{◌<◌, ◌++◌, rules, arith}
+use Rattle.md_graph.specs.declared.TheConstants.{NAMES}
+use Rattle.md_text.specs.Pieces.{piece_text}
+use Rattle.md_blocks.proofs.BlockLemmas.{nothing_more, empty_from, word_there, words_more, words_end}
+use Rattle.md_blocks.proofs.writer.write_members.Goals as goal
+
+pub returns-in_default : goal.returns-in_default
+returns-in_default g c = record {
+  written = nothing_more c.args.pieces.now (piece_text c.args.start) (c.args.text.now.items ++ c.args.chunk.now) _ (empty_from c.args.set.now c.args.from c.in_default.ensures.none);
+}
+
+pub write_word-requires : goal.write_word-requires
+write_word-requires g c =
+    let put = c.loop-first.invariant in
+    let named : c.loop-first.first < NAMES = omega (arith, c.loop-first-test.true, c.in-Some.ensures.name) in (
+      search rules,
+      (omega (arith, c.loop-first-test.true, c.in-Some.ensures.below), (named, (put.aligned, (put.near, word_there c.args.set.now c.args.from c.loop-first.first c.args.pieces.now (piece_text c.args.start) _ _ put named)))),
+    )
+
+pub loop-first-preserved : goal.loop-first-preserved
+loop-first-preserved g c =
+    words_more c.args.set.now c.args.from c.loop-first.first c.args.pieces.now (piece_text c.args.start) _ _ c.loop-first.invariant (omega (arith, c.loop-first-test.true, c.in-Some.ensures.name))
+    (c.write_word.new.text.items ++ c.write_word.new.chunk) c.in_ok-write_word.ensures
+
+pub returns : goal.returns
+returns g c = record {
+  written = words_end c.args.set.now c.args.from c.loop-first.first c.in-Some.last c.args.pieces.now (piece_text c.args.start) _ _ c.in-Some.ensures.found (omega (arith, c.loop-first-test.false)) c.loop-first.invariant;
+}

@@ -1,0 +1,73 @@
+//! Writes the members of a set, word by word.
+ghost use Rattle.std.specs.Prelude.{◌≡◌, ℕ, ◌+◌, ◌*◌, ◌%◌, ◌<◌, ◌≤◌, ◌++◌, length, max, OnOk};
+ghost use Rattle.std.specs.List.{All};
+ghost use Rattle.md_graph.specs.NameSet.{ascending_between, ascending_from};
+ghost use Rattle.md_text.specs.Pieces.{piece_text, texts_at};
+
+use crate::blocks::{bits_from, write_block};
+use md_graph::{Memory, NAMES, Set};
+use md_text::{Chunk, Piece};
+
+/// Gathers, for each member of a set at or above `from`, ascending, the piece `start` and the one
+/// at the index of the member. What is gathered stands behind the text: the chunk goes to it when
+/// there is no room for the pieces of 64 members. A word of the set without members costs a look
+/// at it. Condition: there is a piece at the index of each of these members.
+///
+/// # Errors
+///
+/// Want of memory.
+// Never inlined, so that its loops have the registers to themselves.
+#[inline(never)]
+pub fn write_members<const W: usize>(
+    set: &Set<W>,
+    from: u32,
+    start: Piece,
+    pieces: &[Piece],
+    chunk: &mut Chunk,
+    text: &mut Vec<u8>,
+) -> Result<(), Memory>
+    requires there { All (λ v. v < length pieces.now) (ascending_from set.now from) }
+    ensures written { OnOk result (text.new.items ++ chunk.new ≡ (text.old.items ++ chunk.old)
+        ++ texts_at pieces.now (piece_text start) (ascending_from set.now from)) }
+{
+    let Some(last) = set.last() else {
+        return Ok(());
+    };
+    let mut first = from / 64 * 64;
+    while first <= last {
+        write_word(set, first, from, start, pieces, chunk, text)?;
+        first += 64;
+    }
+    Ok(())
+}
+
+// The same for the members of one word, which begins with the name `first`.
+#[inline(always)]
+fn write_word<const W: usize>(
+    set: &Set<W>,
+    first: u32,
+    from: u32,
+    start: Piece,
+    pieces: &[Piece],
+    chunk: &mut Chunk,
+    text: &mut Vec<u8>,
+) -> Result<(), Memory>
+    requires word { first < 64 * W }
+    requires name { first < NAMES }
+    requires aligned { first % 64 ≡ 0 }
+    requires near { from < first + 64 }
+    requires there { All (λ v. v < length pieces.now)
+        (ascending_between set.now (max from first) (first + 64)) }
+    ensures { OnOk result (text.new.items ++ chunk.new ≡ (text.old.items ++ chunk.old)
+        ++ texts_at pieces.now (piece_text start)
+        (ascending_between set.now (max from first) (first + 64))) }
+{
+    let word = set.block(first);
+    if word == 0 {
+        return Ok(());
+    }
+    chunk.make_room(16 * 64, text)?;
+    let bits = bits_from(word, first, from);
+    write_block(first, bits, start, pieces, chunk);
+    Ok(())
+}
