@@ -9,3 +9,6 @@ mod blocks;
 mod writer;
 
 pub use writer::write_members;
+
+#[cfg(test)]
+mod tests;
