@@ -11,10 +11,11 @@ ghost use Rattle.md_tree.specs.TreeTexts.{pairs_text_by};
 ghost use Rattle.md_checker.specs.TextFits.{opened_at, MayHaveKinds, AreLive, HasOthers, IsRead, IsReadInside, IsReadOn};
 ghost use Rattle.md_checker.specs.TextViews.{StandForChildren, IsFitView, IsTextOfTree, listed_pairs};
 
-use crate::head_pairs::{PairSpace, past_bracket, past_pairs};
+use crate::head_pairs::{past_bracket, past_pairs};
 use crate::node_fit::is_fit_node;
 use crate::text_graph::TextGraph;
 use md_graph::{Memory, NAMES, Set};
+use md_outline::PairSpace;
 use md_text::{skip_byte, small_number};
 use md_tree::{Lettered, Opened, Paired, ascends, split_letter};
 use std::alloc::Global;

@@ -1,3 +1,4 @@
 pub mod HeadPairs
+pub mod Heads
 pub mod NodeRows
 pub mod Writing

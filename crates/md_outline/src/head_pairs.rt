@@ -1,5 +1,5 @@
 //! Writes the pairs of a prime node, read off the rows of a graph. No list of pairs is made.
-ghost use Rattle.std.specs.Prelude.{◌≡◌, ◌+◌, ◌*◌, ◌<◌, ◌≤◌, ◌^◌, ℕ, Bool, List, [], ◌∷◌, ◌++◌, length, get_or, IfOk, OnOk};
+ghost use Rattle.std.specs.Prelude.{◌≡◌, ◌+◌, ◌*◌, ◌<◌, ◌≤◌, ◌^◌, ℕ, Bool, List, [], ◌∷◌, ◌++◌, length, get_or, OnOk};
 ghost use Rattle.std.specs.List.{All};
 ghost use Rattle.std.specs.FinSet as set;
 ghost use Rattle.md_graph.specs.PlainGraph.{adjacent};
@@ -10,32 +10,13 @@ ghost use Rattle.md_tree.specs.TreeTexts.{pairs_text};
 ghost use Rattle.md_outline.specs.HeadPairs.{near_heads, near_pairs, head_pairs, SpellPositions};
 ghost use Rattle.md_outline.specs.NodeRows.{is_edge_up, AreHeadsOf};
 
+use crate::pair_space::PairSpace;
 use md_graph::{GraphOf, Members, Memory, Set};
-use md_text::{CHUNK_SIZE, Chunk, Piece, digits_piece, number_piece, piece_behind};
+use md_text::{CHUNK_SIZE, Chunk, Piece, number_piece, piece_behind};
 use md_tree::{Pair, Paired};
-use std::alloc::Global;
 
 // So many bytes have room for a pair, which is two pieces.
 const PAIR_ROOM: usize = 16;
-
-// What the pairs of a node need beside the text: at the place of each head its position, a chunk
-// in which pairs are gathered, and the mark before the next pair.
-#[derive(Drop)]
-pub(crate) struct PairSpace {
-    places: Vec<Piece>,
-    chunk: Chunk,
-    mark: u8,
-}
-
-impl PairSpace {
-    pub(crate) fn new(alloc: Global) -> PairSpace {
-        PairSpace {
-            places: Vec::new(alloc),
-            chunk: Chunk::new(),
-            mark: b';',
-        }
-    }
-}
 
 // The semicolon and the pairs, where there are some, of a prime node with these heads of its
 // children.
@@ -50,38 +31,12 @@ pub(crate) fn push_head_pairs<const W: usize>(
         ++ pairs_text 59 (head_pairs graph_pairs (is_edge_up (adjacent graph.now)) heads.now)) }
 {
     let _vertices = graph.vertices();
-    spell_places(&mut space.places, heads)?;
+    space.places.spell(heads)?;
     let all = Set::from_list(heads);
-    let room = pair_room(&space.places, heads);
+    let room = pair_room(space.places.as_slice(), heads);
     text.reserve(count_pairs(graph, heads, &all).saturating_mul(room))?;
     gather_pairs(text, graph, heads, &all, space)?;
     space.chunk.flush(text)?;
-    Ok(())
-}
-
-// Puts down the position of each head at its place.
-fn spell_places(places: &mut Vec<Piece>, heads: &[u32]) -> Result<(), Memory>
-    requires some { 0 < length heads.now }
-    requires ascending { (i j : ℕ) → i < j → j < length heads.now
-        → get_or heads.now i 0 < get_or heads.now j 0 }
-    requires few { length heads.now ≤ 10 ^ 5 }
-    ensures { IfOk result (λ _. SpellPositions places.new.items 0 heads.now) }
-{
-    make_places(places, heads[heads.len() - 1])?;
-    for (position, head) in heads.iter().enumerate() {
-        places[*head as usize] = digits_piece(position as u32);
-    }
-    Ok(())
-}
-
-// Makes places, so that there is one for the name.
-fn make_places(places: &mut Vec<Piece>, last: u32) -> Result<(), Memory>
-    ensures { IfOk result (λ _. last < length places.new.items) }
-{
-    let count = last as usize + 1;
-    if places.len() < count {
-        places.resize(count, digits_piece(0))?;
-    }
     Ok(())
 }
 
@@ -118,7 +73,7 @@ fn gather_pairs<const W: usize>(
     requires heads { AreHeadsOf graph.now.vertices heads.now }
     requires few { length heads.now ≤ 10 ^ 5 }
     requires all { all.now ≡ set.from_list heads.now }
-    requires places { SpellPositions space.old.places.items 0 heads.now }
+    requires places { SpellPositions space.old.places 0 heads.now }
     ensures { OnOk result (text.new.items ++ space.new.chunk ≡ text.old.items
         ++ pairs_text 59 (head_pairs graph_pairs (is_edge_up (adjacent graph.now)) heads.now)) }
 {
@@ -140,13 +95,13 @@ fn put_row(
     space: &mut PairSpace,
 ) -> Result<(), Memory>
     requires low { low < 10 ^ 5 }
-    requires there { All (λ v. v < length space.old.places.items) near }
+    requires there { All (λ v. v < length space.old.places) near }
     ensures written { OnOk result ((e : ℕ → ℕ → Bool) (v j : ℕ) (ws : List ℕ) (more : List Pair)
-        → SpellPositions space.old.places.items j ws → near.entry ≡ near_heads e v ws
+        → SpellPositions space.old.places j ws → near.entry ≡ near_heads e v ws
         → (text.new.items ++ space.new.chunk) ++ pairs_text space.new.mark more
         ≡ (text.old.items ++ space.old.chunk)
         ++ pairs_text space.old.mark (near_pairs graph_pairs e v low j ws ++ more)) }
-    ensures places { space.new.places.items ≡ space.old.places.items }
+    ensures places { space.new.places ≡ space.old.places }
 {
     let mut others = near;
     let Some(first) = others.next() else {
@@ -155,12 +110,18 @@ fn put_row(
     let digits = number_piece(low, Pair::between());
     let start = piece_behind(space.mark, digits);
     space.mark = b',';
-    put_pair(text, start, first, &space.places, &mut space.chunk)?;
+    put_pair(
+        text,
+        start,
+        first,
+        space.places.as_slice(),
+        &mut space.chunk,
+    )?;
     put_each(
         text,
         piece_behind(b',', digits),
         others,
-        &space.places,
+        space.places.as_slice(),
         &mut space.chunk,
     )
 }

@@ -3,9 +3,11 @@
 
 mod head_pairs;
 mod outline;
+mod pair_space;
 mod writer;
 
 pub use outline::OutlinePart;
+pub use pair_space::{HeadPlaces, PairSpace};
 pub use writer::{RowSpace, push_text_by_rows};
 
 #[cfg(test)]

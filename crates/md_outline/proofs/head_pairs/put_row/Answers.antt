@@ -12,12 +12,12 @@ returns-in_default-clause-written c e v j ws more places is = row_empty graph_pa
 
 pub put_each-requires : goal.put_each-requires
 put_each-requires c =
-    subst (λ p. All (λ v. v < length p) c.next.new.self) (sym c.deref-2.ensures.value)
-    (first_there c.args.space.now.places.items c.args.near c.next.new.self c.in-Some.first c.in-Some.ensures.steps c.requires.there).1
+    subst (λ p. All (λ v. v < length p) c.next.new.self) (sym c.as_slice-2.ensures.pieces)
+    (first_there c.args.space.now.places c.args.near c.next.new.self c.in-Some.first c.in-Some.ensures.steps c.requires.there).1
 
 pub returns-clause-written : goal.returns-clause-written
 returns-clause-written c =
-    let pieces = c.args.space.now.places.items in
+    let pieces = c.args.space.now.places in
     let digits = c.number_piece-digits.ensures.text ∙ ap (λ n. decimal c.args.low ++ n ∷ []) c.between.ensures in
     let before = c.args.text.now.items ++ c.args.space.now.chunk in
     let mid = c.put_pair.new.text.items ++ c.put_pair.new.chunk in
@@ -25,6 +25,6 @@ returns-clause-written c =
     (λ put e v j ws more places is.
     row_put graph_pairs_law e v c.args.low j ws pieces (piece_text c.piece_behind.result) (piece_text c.piece_behind-start.result) c.args.space.now.mark c.in-Some.first c.next.new.self before mid _ more
     (c.piece_behind.ensures.text ∙ ap (λ l. 44 ∷ l) digits) (c.piece_behind-start.ensures.text ∙ ap (λ l. c.args.space.now.mark ∷ l) digits) places (sym is ∙ c.in-Some.ensures.steps)
-    (c.in_ok-put_pair.ensures ∙ ap (λ p. before ++ (piece_text c.piece_behind-start.result ++ text_at p c.in-Some.first)) c.deref.ensures.value)
-    (put ∙ ap (λ p. mid ++ texts_at p (piece_text c.piece_behind.result) c.next.new.self) c.deref-2.ensures.value))
+    (c.in_ok-put_pair.ensures ∙ ap (λ p. before ++ (piece_text c.piece_behind-start.result ++ text_at p c.in-Some.first)) c.as_slice.ensures.pieces)
+    (put ∙ ap (λ p. mid ++ texts_at p (piece_text c.piece_behind.result) c.next.new.self) c.as_slice-2.ensures.pieces))
     c.put_each.ensures

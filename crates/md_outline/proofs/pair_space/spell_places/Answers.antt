@@ -1,6 +1,6 @@
 use Rattle.std.proofs.Common.{arith}
 use Rattle.md_outline.proofs.HeadPairs.{places_all, all_below_last}
-use Rattle.md_checker.proofs.head_pairs.spell_places.Goals as goal
+use Rattle.md_outline.proofs.pair_space.spell_places.Goals as goal
 
 pub returns : goal.returns
 returns c =

@@ -1,7 +1,7 @@
 use Rattle.std.proofs.Common.{◌≡◌, ◌<◌, ◌-◌, ℕ, length, get_or}
 use Rattle.md_text.specs.Numbers.{decimal}
 use Rattle.md_text.specs.Pieces.{text_at}
-use Rattle.md_checker.proofs.head_pairs.spell_places.Given as goal
+use Rattle.md_outline.proofs.pair_space.spell_places.Given as goal
 
 abbrev pub invariant-loop-position : goal.invariant-loop-position
 invariant-loop-position l = record {
