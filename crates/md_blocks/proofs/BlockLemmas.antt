@@ -130,8 +130,8 @@ pub nothing_more : (pieces : List Piece) (start now xs : List ℕ) → xs ≡ []
 unfolding texts_at
 nothing_more pieces start now xs none = sym (ap (λ l. now ++ texts_at pieces start l) none ∙ append-nil now)
 
-pub empty_from : (s : NameSet) (from : ℕ) → NoneFrom s 0 → ascending_from s from ≡ []
-empty_from s from none = ascending_none s from NAMES (λ w above below. false_from_ne_true _ (λ m. let under = none w m in omega arith))
+pub empty_from : (s : NameSet) (low from : ℕ) → low ≤ from → NoneFrom s low → ascending_from s from ≡ []
+empty_from s low from up none = ascending_none s from NAMES (λ w above below. false_from_ne_true _ (λ m. let under = none w m in omega arith))
 
 -- no word behind the greatest member has one
 pub words_end : (s : NameSet) (from first last : ℕ) (pieces : List Piece) (start now total : List ℕ) → IsGreatest s last → last < first → ArePut s from first pieces start now total → now ≡ total

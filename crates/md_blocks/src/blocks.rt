@@ -8,8 +8,8 @@ ghost use Rattle.md_text.specs.Pieces.{piece_text, texts_at};
 use md_graph::lowest;
 use md_text::{CHUNK_SIZE, Chunk, Piece};
 
-// Gathers, for each 1 in `bits`, the piece `start` and the one at the index of its name, where bit k
-// is for the name `first + k`.
+// Gathers, for each 1 in `bits`, the piece `start` and the one at the index of its name: bit k is
+// for the name `first + k`.
 pub(crate) fn write_block(first: u32, bits: u64, start: Piece, pieces: &[Piece], chunk: &mut Chunk)
     requires there { All (λ w. w < length pieces.now) (bits_between first bits 64) }
     requires fits { first + 64 < 2 ^ 32 }

@@ -6,7 +6,7 @@ use Rattle.md_blocks.proofs.writer.write_members.Goals as goal
 
 pub returns-in_default : goal.returns-in_default
 returns-in_default g c = record {
-  written = nothing_more c.args.pieces.now (piece_text c.args.start) (c.args.text.now.items ++ c.args.chunk.now) _ (empty_from c.args.set.now c.args.from c.in_default.ensures.none);
+  written = nothing_more c.args.pieces.now (piece_text c.args.start) (c.args.text.now.items ++ c.args.chunk.now) _ (empty_from c.args.set.now 0 c.args.from (omega arith) c.in_default.ensures.none);
 }
 
 pub write_word-requires : goal.write_word-requires
