@@ -87,15 +87,11 @@ fn lowest_name(first: u32, bits: u64) -> Option<(u32, u64)>
     Some((first + place, others))
 }
 
-// The bits for names at or above `from`, where bit k is for the name `first + k`.
-pub(crate) fn bits_from(bits: u64, first: u32, from: u32) -> u64
-    requires { from < first + 64 }
-    ensures { (k : ℕ) → k < 64
-        → bit_at result k ≡ (if nat_le from (first + k) then bit_at bits k else 0) }
+// The bits from a place on.
+#[inline(always)]
+pub(crate) fn bits_from(bits: u64, place: u32) -> u64
+    requires { place < 64 }
+    ensures { (k : ℕ) → k < 64 → bit_at result k ≡ (if nat_le place k then bit_at bits k else 0) }
 {
-    if from <= first {
-        return bits;
-    }
-    let place = from - first;
     bits >> place << place
 }

@@ -6,7 +6,7 @@ use Rattle.md_blocks.proofs.writer.write_members.Given as goal
 
 abbrev pub invariant-loop-first : goal.invariant-loop-first
 invariant-loop-first g l =
-    ArePut l.set l.from l.first l.pieces (piece_text l.start) (l.text.items ++ l.chunk) ((l.fn.text.items ++ l.fn.chunk) ++ texts_at l.pieces (piece_text l.start) (ascending_from l.set l.from))
+    ArePut l.set l.first l.place l.pieces (piece_text l.start) (l.text.items ++ l.chunk) ((l.fn.text.items ++ l.fn.chunk) ++ texts_at l.pieces (piece_text l.start) (ascending_from l.set l.from))
 
 abbrev pub decreases-loop-first : goal.decreases-loop-first
 decreases-loop-first g l = l.last + 64 - l.first
