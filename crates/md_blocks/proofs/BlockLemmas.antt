@@ -1,5 +1,5 @@
 -- The members of a set, 64 names at a time, and their texts.
-use Rattle.std.specs.Prelude.{◌≡◌, ℕ, zero, suc, ◌+◌, ◌-◌, ◌%◌, ◌<◌, ◌≤◌, Bool, true, false, cond, ◌&&◌, ◌==◌, nat_le, List, [], ◌∷◌, ◌++◌, length, refl}
+use Rattle.std.specs.Prelude.{◌≡◌, ℕ, zero, suc, ◌+◌, ◌-◌, ◌%◌, ◌<◌, ◌≤◌, Bool, true, false, cond, ◌&&◌, ◌==◌, nat_le, Option, None, Some, List, [], ◌∷◌, ◌++◌, length, IfSome, IfNone, refl}
 use Rattle.std.specs.Int.{bit_at}
 use Rattle.std.specs.List.{All}
 use Rattle.std.proofs.Common.{true≢false, subst, ap, sym, ◌∙◌, arith, inl, inr, append_assoc, append-nil, length-append}
@@ -69,29 +69,55 @@ past_word s first bits v none has m from =
       | inr past ↦ past
     ]
 
+-- ---- where nothing is to be written
+
+pub nothing_more : (pieces : List Piece) (start now xs : List ℕ) → xs ≡ [] → now ≡ now ++ texts_at pieces start xs
+unfolding texts_at
+nothing_more pieces start now xs none = sym (ap (λ l. now ++ texts_at pieces start l) none ∙ append-nil now)
+
+pub empty_from : (s : NameSet) (low from : ℕ) → low ≤ from → NoneFrom s low → ascending_from s from ≡ []
+empty_from s low from up none = ascending_none s from NAMES (λ w above below. false_from_ne_true _ (λ m. let under = none w m in omega arith))
+
 -- ---- the members from a name on: word by word
 
 -- a name at the front of a word that isn't behind all names
 pub word_fits : (first : ℕ) → first % 64 ≡ 0 → first < NAMES → first + 64 ≤ NAMES
 word_fits first aligned below = let whole = NAMES-is in omega arith
 
-word_split : (s : NameSet) (first place : ℕ) → place < 64 → first + 64 ≤ NAMES → ascending_from s (first + place) ≡ ascending_between s (first + place) (first + 64) ++ ascending_from s (first + 64)
-word_split s first place within named = ascending_split s (first + place) (first + 64) NAMES (omega arith) named
+-- where a word begins with `first`, the members from one of its places on are those of its bits, and those behind it
+pub word_from : (s : NameSet) (from first place bits masked : ℕ) → from ≡ first + place → place < 64 → first % 64 ≡ 0 → first < NAMES → ((k : ℕ) → k < 64 → set.contains s (first + k) ≡ (bit_at bits k == 1))
+    → ((k : ℕ) → k < 64 → bit_at masked k ≡ cond (nat_le place k) (bit_at bits k) 0) → ascending_from s from ≡ bits_between first masked 64 ++ ascending_from s (first + 64)
+word_from s from first place bits masked whole within aligned named has is =
+    ap (ascending_from s) whole ∙ ascending_split s (first + place) (first + 64) NAMES (omega arith) (word_fits first aligned named)
+    ∙ ap (λ l. l ++ ascending_from s (first + 64)) (word_is s first place bits masked has is)
 
--- where no member is below `next`
-words_passed : (s : NameSet) (from next : ℕ) → from ≤ next → next ≤ NAMES → ((v : ℕ) → Has s v → from ≤ v → next ≤ v) → ascending_from s from ≡ ascending_from s (next + 0)
-words_passed s from next up few none =
-    let same : next ≡ next + 0 = omega arith in
-    ascending_split s from next NAMES up few
-    ∙ ap (λ l. l ++ ascending_from s next) (ascending_none s from next (λ v above below. false_from_ne_true _ (λ m. let past = none v m above in omega arith)))
-    ∙ ap (ascending_from s) same
+-- the same where no member is below that word
+pub next_from : (s : NameSet) (from first bits : ℕ) → from ≤ first → first % 64 ≡ 0 → first < NAMES → ((v : ℕ) → Has s v → from ≤ v → first ≤ v) → ((k : ℕ) → k < 64 → set.contains s (first + k) ≡ (bit_at bits k == 1)) →
+    ascending_from s from ≡ bits_between first bits 64 ++ ascending_from s (first + 64)
+next_from s from first bits up aligned named none has =
+    ascending_split s from first NAMES up (omega arith)
+    ∙ ap (λ l. l ++ ascending_from s first) (ascending_none s from first (λ v above below. false_from_ne_true _ (λ m. let past = none v m above in omega arith)))
+    ∙ word_from s first first 0 bits bits (omega arith) (omega arith) aligned named has (λ k h. sym (ap (λ b. cond b (bit_at bits k) 0) (le-leb 0 k (omega arith))))
 
--- what is written before a place of a word, and what is to be written from there on
-pub record ArePut (s : NameSet) (first place : ℕ) (pieces : List Piece) (start now total : List ℕ) : Type 0 where
-  pub aligned : first % 64 ≡ 0
-  pub within : place < 64
-  pub there : All (λ v. v < length pieces) (ascending_from s (first + place))
-  pub written : now ++ texts_at pieces start (ascending_from s (first + place)) ≡ total
+-- no word behind the greatest member has one
+pub past_last : (s : NameSet) (from last : ℕ) → IsGreatest s last → last < from → ascending_from s from ≡ []
+past_last s from last greatest past = ascending_none s from NAMES (λ w above below. false_from_ne_true _ (λ m. let within = greatest.last w m in omega arith))
+
+-- the names of the bits of a word, and those behind it
+abbrev pub names_left : NameSet → Option (ℕ × ℕ) → List ℕ
+names_left s None = []
+names_left s (Some word) = bits_between word.0 word.1 64 ++ ascending_from s (word.0 + 64)
+
+left_is : (s : NameSet) (next : Option (ℕ × ℕ)) (names : List ℕ) → IfSome next (λ word. names ≡ bits_between word.0 word.1 64 ++ ascending_from s (word.0 + 64)) → IfNone next (names ≡ []) → names ≡ names_left s next
+left_is s None names some none = none
+left_is s (Some word) names some none = some
+
+-- what is written before a word, and what is to be written from there on
+pub record ArePut (s : NameSet) (next : Option (ℕ × ℕ)) (pieces : List Piece) (start now total : List ℕ) : Type 0 where
+  pub named : IfSome next (λ word. word.0 + 64 ≤ NAMES)
+  pub aligned : IfSome next (λ word. word.0 % 64 ≡ 0)
+  pub there : All (λ v. v < length pieces) (names_left s next)
+  pub written : now ++ texts_at pieces start (names_left s next) ≡ total
 
 pub texts_append : (pieces : List Piece) (first xs ys : List ℕ) → texts_at pieces first (xs ++ ys) ≡ texts_at pieces first xs ++ texts_at pieces first ys
 unfolding texts_at
@@ -106,54 +132,38 @@ texts_cut pieces start held placed total xs front rest before cut more =
     ap (λ l. l ++ texts_at pieces start rest) more ∙ append_assoc held (texts_at pieces start front) (texts_at pieces start rest)
     ∙ ap (λ l. held ++ l) (sym (ap (texts_at pieces start) cut ∙ texts_append pieces start front rest)) ∙ before
 
-pub words_begin : (s : NameSet) (from first place : ℕ) (pieces : List Piece) (start now : List ℕ) → from ≡ first + place → first % 64 ≡ 0 → place < 64 →
-    All (λ v. v < length pieces) (ascending_from s from) → ArePut s first place pieces start now (now ++ texts_at pieces start (ascending_from s from))
-words_begin s from first place pieces start now whole aligned within there = record {
-  aligned = aligned;
-  within = within;
-  there = subst (λ n. All (λ v. v < length pieces) (ascending_from s n)) whole there;
-  written = ap (λ n. now ++ texts_at pieces start (ascending_from s n)) (sym whole);
-}
+module _ (s : NameSet) (pieces : List Piece) (start : List ℕ) where
+  pub words_begin : (from : ℕ) (next : Option (ℕ × ℕ)) (now : List ℕ) → IfSome next (λ word. word.0 + 64 ≤ NAMES) → IfSome next (λ word. word.0 % 64 ≡ 0) →
+      IfSome next (λ word. ascending_from s from ≡ bits_between word.0 word.1 64 ++ ascending_from s (word.0 + 64)) → IfNone next (ascending_from s from ≡ []) →
+      All (λ v. v < length pieces) (ascending_from s from) → ArePut s next pieces start now (now ++ texts_at pieces start (ascending_from s from))
+  words_begin from next now named aligned some none there =
+      let left = left_is s next (ascending_from s from) some none in
+      record { named = named; aligned = aligned; there = subst (All (λ v. v < length pieces)) left there; written = ap (λ l. now ++ texts_at pieces start l) (sym left) }
 
-module _ (s : NameSet) (first place : ℕ) (pieces : List Piece) (start now total : List ℕ) (put : ArePut s first place pieces start now total) where
-  pub word_there : first < NAMES → All (λ v. v < length pieces) (ascending_between s (first + place) (first + 64))
-  word_there named =
-      All-front (λ v. v < length pieces) (ascending_between s (first + place) (first + 64)) (ascending_from s (first + 64))
-      (subst (All (λ v. v < length pieces)) (word_split s first place put.within (word_fits first put.aligned named)) put.there)
+  pub words_end : (next : Option (ℕ × ℕ)) (now total : List ℕ) → next ≡ None → ArePut s next pieces start now total → now ≡ total
+  words_end next now total none put = nothing_more pieces start now (names_left s next) (ap (names_left s) none) ∙ put.written
 
-  pub words_more : first < NAMES → (after : List ℕ) → after ≡ now ++ texts_at pieces start (ascending_between s (first + place) (first + 64)) → (next : ℕ) → next % 64 ≡ 0 → first + 64 ≤ next → next ≤ NAMES →
-      ((v : ℕ) → Has s v → first + 64 ≤ v → next ≤ v) → ArePut s next 0 pieces start after total
-  words_more named after more next aligned up few none =
-      let cut = word_split s first place put.within (word_fits first put.aligned named) ∙ ap (λ l. ascending_between s (first + place) (first + 64) ++ l) (words_passed s (first + 64) next up few none) in
-      record {
-        aligned = aligned;
-        within = omega arith;
-        there = All-behind (λ v. v < length pieces) (ascending_between s (first + place) (first + 64)) (ascending_from s (next + 0)) (subst (All (λ v. v < length pieces)) cut put.there);
-        written = texts_cut pieces start now after total (ascending_from s (first + place)) (ascending_between s (first + place) (first + 64)) (ascending_from s (next + 0)) put.written cut more;
-      }
+  module _ (first bits : ℕ) (now total : List ℕ) (put : ArePut s (Some (first, bits)) pieces start now total) where
+    pub word_there : All (λ v. v < length pieces) (bits_between first bits 64)
+    word_there = All-front (λ v. v < length pieces) (bits_between first bits 64) (ascending_from s (first + 64)) put.there
 
--- ---- where nothing is to be written
-
-pub nothing_more : (pieces : List Piece) (start now xs : List ℕ) → xs ≡ [] → now ≡ now ++ texts_at pieces start xs
-unfolding texts_at
-nothing_more pieces start now xs none = sym (ap (λ l. now ++ texts_at pieces start l) none ∙ append-nil now)
-
-pub empty_from : (s : NameSet) (low from : ℕ) → low ≤ from → NoneFrom s low → ascending_from s from ≡ []
-empty_from s low from up none = ascending_none s from NAMES (λ w above below. false_from_ne_true _ (λ m. let under = none w m in omega arith))
-
--- no word behind the greatest member has one
-pub words_end : (s : NameSet) (first place last : ℕ) (pieces : List Piece) (start now total : List ℕ) → IsGreatest s last → last < first → ArePut s first place pieces start now total → now ≡ total
-words_end s first place last pieces start now total greatest past put =
-    nothing_more pieces start now (ascending_from s (first + place))
-    (ascending_none s (first + place) NAMES (λ w above below. false_from_ne_true _ (λ m. let within = greatest.last w m in omega arith)))
-    ∙ put.written
+    pub words_more : (next : Option (ℕ × ℕ)) (after : List ℕ) → after ≡ now ++ texts_at pieces start (bits_between first bits 64) → IfSome next (λ word. word.0 + 64 ≤ NAMES) → IfSome next (λ word. word.0 % 64 ≡ 0) →
+        IfSome next (λ word. ascending_from s (first + 64) ≡ bits_between word.0 word.1 64 ++ ascending_from s (word.0 + 64)) → IfNone next (ascending_from s (first + 64) ≡ []) → ArePut s next pieces start after total
+    words_more next after more named aligned some none =
+        let left = left_is s next (ascending_from s (first + 64)) some none in
+        record {
+          named = named;
+          aligned = aligned;
+          there = subst (All (λ v. v < length pieces)) left (All-behind (λ v. v < length pieces) (bits_between first bits 64) (ascending_from s (first + 64)) put.there);
+          written =
+              ap (λ l. after ++ texts_at pieces start l) (sym left)
+              ∙ texts_cut pieces start now after total (bits_between first bits 64 ++ ascending_from s (first + 64)) (bits_between first bits 64) (ascending_from s (first + 64)) put.written refl more;
+        }
 
 -- a word that is put behind what was held
-pub word_put : (pieces : List Piece) (start text held moved kept placed xs ys : List ℕ) → moved ++ kept ≡ text ++ held → placed ≡ kept ++ texts_at pieces start ys → xs ≡ ys →
-    moved ++ placed ≡ (text ++ held) ++ texts_at pieces start xs
-word_put pieces start text held moved kept placed xs ys same more is =
-    ap (λ l. moved ++ l) more ∙ sym (append_assoc moved kept (texts_at pieces start ys)) ∙ ap (λ l. l ++ texts_at pieces start ys) same
-    ∙ ap (λ l. (text ++ held) ++ texts_at pieces start l) (sym is)
+pub word_put : (pieces : List Piece) (start text held moved kept placed xs : List ℕ) → moved ++ kept ≡ text ++ held → placed ≡ kept ++ texts_at pieces start xs → moved ++ placed ≡ (text ++ held) ++ texts_at pieces start xs
+word_put pieces start text held moved kept placed xs same more =
+    ap (λ l. moved ++ l) more ∙ sym (append_assoc moved kept (texts_at pieces start xs)) ∙ ap (λ l. l ++ texts_at pieces start xs) same
 
 -- ---- the loop over the bits of a word
 

@@ -1,8 +1,8 @@
 //! Writes the members of a set, word by word.
-ghost use Rattle.std.specs.Prelude.{◌≡◌, ◌+◌, ◌*◌, ◌%◌, ◌<◌, ◌≤◌, ℕ, ◌++◌, length, OnOk};
+ghost use Rattle.std.specs.Prelude.{◌≡◌, ◌+◌, ◌*◌, ◌%◌, ◌<◌, ◌≤◌, [], ◌++◌, length, IfSome, IfNone, OnOk};
 ghost use Rattle.std.specs.List.{All};
-ghost use Rattle.md_graph.specs.NameSet.{IsGreatest, ascending_between, ascending_from};
-ghost use Rattle.md_graph.specs.Sets.{Has};
+ghost use Rattle.md_graph.specs.NameSet.{IsGreatest, ascending_from};
+ghost use Rattle.md_graph.specs.Words.{bits_between};
 ghost use Rattle.md_text.specs.Pieces.{piece_text, texts_at};
 
 use crate::blocks::{bits_from, write_block};
@@ -17,8 +17,8 @@ use md_text::{Chunk, Piece};
 /// # Errors
 ///
 /// Want of memory.
-// Never inlined, so that its loops have the registers to themselves.
-#[inline(never)]
+// Inlined, so that a chunk of the caller's own stays in registers.
+#[inline(always)]
 pub fn write_members<const W: usize>(
     set: &Set<W>,
     from: u32,
@@ -34,63 +34,57 @@ pub fn write_members<const W: usize>(
     let Some(last) = set.last() else {
         return Ok(());
     };
-    let mut first = from / 64 * 64;
-    let mut place = from % 64;
-    while first <= last {
-        write_word(set, first, place, start, pieces, chunk, text)?;
-        first = next_word(set, first + 64, last);
-        place = 0;
+    let mut next = first_word(set, from, last);
+    while let Some((first, bits)) = next {
+        chunk.make_room(16 * 64, text)?;
+        write_block(first, bits, start, pieces, chunk);
+        next = next_word(set, first + 64, last);
     }
     Ok(())
 }
 
-// The same for the members of one word, which begins with the name `first`, from a place on.
+// The name that the word of `from` begins with, and its bits from there on; None where the last
+// member is below `from`.
 #[inline(always)]
-fn write_word<const W: usize>(
-    set: &Set<W>,
-    first: u32,
-    place: u32,
-    start: Piece,
-    pieces: &[Piece],
-    chunk: &mut Chunk,
-    text: &mut Vec<u8>,
-) -> Result<(), Memory>
-    requires word { first < 64 * W }
-    requires name { first < NAMES }
-    requires aligned { first % 64 ≡ 0 }
-    requires within { place < 64 }
-    requires there { All (λ v. v < length pieces.now)
-        (ascending_between set.now (first + place) (first + 64)) }
-    ensures { OnOk result (text.new.items ++ chunk.new ≡ (text.old.items ++ chunk.old)
-        ++ texts_at pieces.now (piece_text start)
-        (ascending_between set.now (first + place) (first + 64))) }
-{
-    let bits = bits_from(set.block(first), place);
-    chunk.make_room(16 * 64, text)?;
-    write_block(first, bits, start, pieces, chunk);
-    Ok(())
-}
-
-// The name that the first word from `from` on with a member begins with; `from`, where the last
-// member of the set is below it.
-#[inline(always)]
-fn next_word<const W: usize>(set: &Set<W>, from: u32, last: u32) -> u32
-    requires aligned { from % 64 ≡ 0 }
-    requires few { from ≤ NAMES }
+fn first_word<const W: usize>(set: &Set<W>, from: u32, last: u32) -> Option<(u32, u64)>
     requires last { IsGreatest set.now last }
     requires name { last < NAMES }
     requires word { last < 64 * W }
-    ensures aligned { result % 64 ≡ 0 }
-    ensures up { from ≤ result }
-    ensures few { result ≤ NAMES }
-    ensures none { (v : ℕ) → Has set.now v → from ≤ v → result ≤ v }
+    ensures named { IfSome result (λ word. word.0 + 64 ≤ NAMES) }
+    ensures aligned { IfSome result (λ word. word.0 % 64 ≡ 0) }
+    ensures members { IfSome result (λ word. ascending_from set.now from
+        ≡ bits_between word.0 word.1 64 ++ ascending_from set.now (word.0 + 64)) }
+    ensures none { IfNone result (ascending_from set.now from ≡ []) }
 {
     if last < from {
-        return from;
+        return None;
+    }
+    let first = from / 64 * 64;
+    Some((first, bits_from(set.block(first), from % 64)))
+}
+
+// The same for the first word from `from` on that has a member, where a word begins with `from`.
+#[inline(always)]
+fn next_word<const W: usize>(set: &Set<W>, from: u32, last: u32) -> Option<(u32, u64)>
+    requires aligned { from % 64 ≡ 0 }
+    requires last { IsGreatest set.now last }
+    requires name { last < NAMES }
+    requires word { last < 64 * W }
+    ensures up { IfSome result (λ word. from ≤ word.0) }
+    ensures named { IfSome result (λ word. word.0 + 64 ≤ NAMES) }
+    ensures aligned { IfSome result (λ word. word.0 % 64 ≡ 0) }
+    ensures members { IfSome result (λ word. ascending_from set.now from
+        ≡ bits_between word.0 word.1 64 ++ ascending_from set.now (word.0 + 64)) }
+    ensures none { IfNone result (ascending_from set.now from ≡ []) }
+{
+    if last < from {
+        return None;
     }
     let mut first = from;
-    while set.block(first) == 0 {
+    let mut bits = set.block(first);
+    while bits == 0 {
         first += 64;
+        bits = set.block(first);
     }
-    first
+    Some((first, bits))
 }

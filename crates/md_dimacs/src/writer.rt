@@ -69,7 +69,9 @@ fn fill_up(places: &mut Vec<Piece>, v: usize, piece: Piece) -> Result<(), Memory
     Ok(())
 }
 
-// Appends the lines of all edges.
+// Appends the lines of all edges. Never inlined, so that its loops have the registers to
+// themselves.
+#[inline(never)]
 fn write_edges<const W: usize>(
     graph: &GraphOf<W>,
     places: &[Piece],

@@ -89,7 +89,9 @@ fn gather_pairs<const W: usize>(
     Ok(())
 }
 
-// Gathers the pairs of the position `low` with those of the near heads from a name on.
+// Gathers the pairs of the position `low` with those of the near heads from a name on. Never
+// inlined, so that its loops have the registers to themselves.
+#[inline(never)]
 fn put_row<const W: usize>(
     text: &mut Vec<u8>,
     near: &Set<W>,
