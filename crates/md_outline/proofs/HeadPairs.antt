@@ -1,5 +1,5 @@
 -- The pairs of names that stand for the children of a prime node: their text, piece by piece, and which they are.
-use Rattle.std.proofs.Common.{◌≡◌, ◌≢◌, ℕ, zero, suc, ◌+◌, ◌-◌, ◌*◌, ◌<◌, ◌≤◌, Bool, true, false, cond, true≢false, List, [], ◌∷◌, ◌++◌, length, get_or, drop, append_assoc, append-nil, refl, sym, ◌∙◌, ap, ap₂, subst, inl, inr, arith}
+use Rattle.std.proofs.Common.{◌≡◌, ℕ, zero, suc, ◌+◌, ◌-◌, ◌<◌, ◌≤◌, Bool, true, false, cond, true≢false, List, [], ◌∷◌, ◌++◌, length, get_or, drop, append_assoc, append-nil, refl, sym, ◌∙◌, ap, ap₂, subst, inl, inr, arith}
 use Rattle.std.specs.Prelude.{◌↔◌, ⊤}
 use Rattle.std.specs.List.{All}
 use Rattle.std.specs.Option.{option_map_or}
@@ -9,7 +9,7 @@ use Rattle.std.proofs.lemmas.List.{drop_more, drop_all}
 use Rattle.std.proofs.lemmas.List.Elements.{All-head, All-tail}
 use Rattle.std.specs.FinSet.{contains, insert, intersection, from_list}
 use Rattle.md_graph.specs.declared.TheConstants.{NAMES}
-use Rattle.md_graph.specs.NameSet.{ascending_between, ascending_from}
+use Rattle.md_graph.specs.NameSet.{ascending_between, ascending_from, IsLeastFrom}
 use Rattle.md_graph.specs.Sets.{NameSet, Has}
 use Rattle.md_graph.proofs.NameLemmas.{ascending_step, ascending_none}
 use Rattle.md_graph.proofs.SetLemmas.{clash, insert_old, insert_new, of_insert, of_meet, meet_has, empty_lacks}
@@ -190,15 +190,9 @@ pair_put text held moved kept new first pieces i piece same put is there =
     ap (λ l. moved ++ l) (put ∙ append_assoc kept first (piece_text piece) ∙ ap (λ l. kept ++ (first ++ l)) at)
     ∙ sym (append_assoc moved kept (first ++ text_at pieces i)) ∙ ap (λ l. l ++ (first ++ text_at pieces i)) same
 
--- one name more, and none
-pub each_more : (now new total first : List ℕ) (pieces : List Piece) (left rest : List ℕ) (x : ℕ) → now ++ texts_at pieces first left ≡ total → left ≡ x ∷ rest → new ≡ now ++ (first ++ text_at pieces x) → new ++ texts_at pieces first rest ≡ total
-unfolding texts_at
-each_more now new total first pieces left rest x before cut one =
-    ap (λ l. l ++ texts_at pieces first rest) one ∙ append_assoc now (first ++ text_at pieces x) (texts_at pieces first rest) ∙ ap (λ l. now ++ texts_at pieces first l) (sym cut) ∙ before
-
-pub each_end : (now total first : List ℕ) (pieces : List Piece) (left : List ℕ) → now ++ texts_at pieces first left ≡ total → left ≡ [] → now ≡ total
-unfolding texts_at
-each_end now total first pieces left before none = sym (append-nil now) ∙ ap (λ l. now ++ texts_at pieces first l) (sym none) ∙ before
+-- the first name of a row, and the others
+pub first_near : (near : NameSet) (from first : ℕ) → IsLeastFrom near from first → first < NAMES → ascending_from near from ≡ first ∷ ascending_from near (first + 1)
+first_near near from first least name = ascending_step near from NAMES first (record { member = least.member; above = least.above; below = name; first = λ w m above below. least.first w m above })
 
 pub first_there : (pieces : List Piece) (names rest : List ℕ) (x : ℕ) → names ≡ x ∷ rest → All (λ v. v < length pieces) names → (x < length pieces) × All (λ v. v < length pieces) rest
 first_there pieces names rest x cut there =

@@ -2,8 +2,9 @@
 ghost use Rattle.std.specs.Prelude.{◌≡◌, ◌+◌, ◌*◌, ◌<◌, ◌≤◌, ◌^◌, ℕ, Bool, List, [], ◌∷◌, ◌++◌, length, get_or, OnOk};
 ghost use Rattle.std.specs.List.{All};
 ghost use Rattle.std.specs.FinSet as set;
+ghost use Rattle.md_graph.specs.NameSet.{ascending_from};
 ghost use Rattle.md_graph.specs.PlainGraph.{adjacent};
-ghost use Rattle.md_text.specs.Pieces.{piece_text, text_at, texts_at};
+ghost use Rattle.md_text.specs.Pieces.{piece_text, text_at};
 ghost use Rattle.md_tree.specs.declared.Pair.{Pair};
 ghost use Rattle.md_tree.specs.Spellings.{graph_pairs};
 ghost use Rattle.md_tree.specs.TreeTexts.{pairs_text};
@@ -11,7 +12,8 @@ ghost use Rattle.md_outline.specs.HeadPairs.{near_heads, near_pairs, head_pairs,
 ghost use Rattle.md_outline.specs.NodeRows.{is_edge_up, AreHeadsOf};
 
 use crate::pair_space::PairSpace;
-use md_graph::{GraphOf, Members, Memory, Set};
+use md_blocks::write_members;
+use md_graph::{GraphOf, Memory, Set};
 use md_text::{CHUNK_SIZE, Chunk, Piece, number_piece, piece_behind};
 use md_tree::{Pair, Paired};
 
@@ -82,73 +84,44 @@ fn gather_pairs<const W: usize>(
     space.mark = b';';
     for (position, head) in heads.iter().enumerate() {
         let near = graph.row(*head).and(all);
-        put_row(text, near.members_from(*head + 1), position as u32, space)?;
+        put_row(text, &near, *head + 1, position as u32, space)?;
     }
     Ok(())
 }
 
-// Gathers the pairs of the position `low` with those of the near heads.
-fn put_row(
+// Gathers the pairs of the position `low` with those of the near heads from a name on. Never
+// inlined, so that its loops have the registers to themselves.
+#[inline(never)]
+fn put_row<const W: usize>(
     text: &mut Vec<u8>,
-    near: Members<'_>,
+    near: &Set<W>,
+    from: u32,
     low: u32,
     space: &mut PairSpace,
 ) -> Result<(), Memory>
     requires low { low < 10 ^ 5 }
-    requires there { All (λ v. v < length space.old.places) near }
+    requires there { All (λ v. v < length space.old.places) (ascending_from near.now from) }
     ensures written { OnOk result ((e : ℕ → ℕ → Bool) (v j : ℕ) (ws : List ℕ) (more : List Pair)
-        → SpellPositions space.old.places j ws → near.entry ≡ near_heads e v ws
+        → SpellPositions space.old.places j ws → ascending_from near.now from ≡ near_heads e v ws
         → (text.new.items ++ space.new.chunk) ++ pairs_text space.new.mark more
         ≡ (text.old.items ++ space.old.chunk)
         ++ pairs_text space.old.mark (near_pairs graph_pairs e v low j ws ++ more)) }
     ensures places { space.new.places ≡ space.old.places }
 {
-    let mut others = near;
-    let Some(first) = others.next() else {
+    let Some(first) = near.first_from(from) else {
         return Ok(());
     };
     let digits = number_piece(low, Pair::between());
     let start = piece_behind(space.mark, digits);
     space.mark = b',';
-    put_pair(
-        text,
-        start,
-        first,
-        space.places.as_slice(),
-        &mut space.chunk,
-    )?;
-    put_each(
-        text,
-        piece_behind(b',', digits),
-        others,
-        space.places.as_slice(),
-        &mut space.chunk,
-    )
-}
-
-// Gathers, for each of the names, the piece `start` and the one at its index. Never inlined, so
-// that its loop has the registers to itself.
-#[inline(never)]
-fn put_each(
-    text: &mut Vec<u8>,
-    start: Piece,
-    others: Members<'_>,
-    pieces: &[Piece],
-    chunk: &mut Chunk,
-) -> Result<(), Memory>
-    requires { All (λ v. v < length pieces.now) others }
-    ensures { OnOk result (text.new.items ++ chunk.new ≡ (text.old.items ++ chunk.old)
-        ++ texts_at pieces.now (piece_text start) others.entry) }
-{
-    for other in others {
-        put_pair(text, start, other, pieces, chunk)?;
-    }
-    Ok(())
+    let pieces = space.places.as_slice();
+    put_pair(text, start, first, pieces, &mut space.chunk)?;
+    let start = piece_behind(b',', digits);
+    write_members(near, first + 1, start, pieces, &mut space.chunk, text)
 }
 
 // Gathers the piece `start` and the one at the index of a name; a chunk without room for them goes
 // to the text first.
-#[inline(always)]
 fn put_pair(
     text: &mut Vec<u8>,
     start: Piece,

@@ -1,5 +1,5 @@
-use Rattle.std.proofs.Common.{◌++◌, ◌+◌, ◌<◌, length, get_or, sym, ◌∙◌, subst, rules, arith}
-use Rattle.std.specs.List.{All}
+use Rattle.std.proofs.Common.{◌++◌, ◌+◌, ◌<◌, ◌^◌, get_or, rules, arith}
+use Rattle.md_graph.specs.NameSet.{ascending_from}
 use Rattle.md_graph.specs.PlainGraph.{adjacent}
 use Rattle.md_tree.specs.Spellings.{graph_pairs}
 use Rattle.md_outline.specs.NodeRows.{is_edge_up}
@@ -20,10 +20,7 @@ put_row-requires g c =
     let places = c.loop-position.space.places in
     let there = near_there (is_edge_up (adjacent c.args.graph.now)) c.args.heads.now c.requires.heads.order (λ k low. c.vertices-vertices.ensures.graph.names (get_or c.args.heads.now k 0) (c.requires.heads.members k low)) head c.row.result.now c.and-near.result c.args.all.now (head + 1)
     (omega arith) c.requires.all c.and-near.ensures.value (edges_ahead c.vertices-vertices.ensures.graph head c.row.result.now c.row.ensures.set) places c.loop-position.invariant.places in
-    record {
-      low = (let a = c.loop-position-test.true in let b = c.requires.few in omega arith);
-      there = subst (All (λ w. w < length places)) (sym c.members_from.ensures.list) there;
-    }
+    (search rules, ((let a = c.loop-position-test.true in let b = c.requires.few in let small : c.loop-position.position < 10 ^ 5 = omega arith in small), there))
 
 pub loop-position-preserved : goal.loop-position-preserved
 loop-position-preserved g c =
@@ -32,7 +29,7 @@ loop-position-preserved g c =
     let near = near_is (is_edge_up (adjacent c.args.graph.now)) c.args.heads.now c.requires.heads.order (λ k low. c.vertices-vertices.ensures.graph.names (get_or c.args.heads.now k 0) (c.requires.heads.members k low)) head c.row.result.now c.and-near.result c.args.all.now (head + 1)
     (omega arith) c.requires.all c.and-near.ensures.value (edges_ahead c.vertices-vertices.ensures.graph head c.row.result.now c.row.ensures.set) in
     heads_more graph_pairs (is_edge_up (adjacent c.args.graph.now)) c.args.heads.now c.loop-position.position c.loop-position-test.true c.args.text.now.items (c.loop-position.text.items ++ c.loop-position.space.chunk) c.loop-position.space.mark c.loop-position.space.places
-    c.loop-position.invariant (c.put_row.new.text.items ++ c.put_row.new.space.chunk) c.put_row.new.space.mark c.put_row.new.space.places c.members_from.result c.put_row.ensures.places (c.members_from.ensures.list ∙ near) c.in_ok-put_row.ensures.written
+    c.loop-position.invariant (c.put_row.new.text.items ++ c.put_row.new.space.chunk) c.put_row.new.space.mark c.put_row.new.space.places (ascending_from c.and-near.result (head + 1)) c.put_row.ensures.places near c.in_ok-put_row.ensures.written
 
 pub returns : goal.returns
 returns g c = heads_end graph_pairs (is_edge_up (adjacent c.args.graph.now)) c.args.heads.now c.loop-position.position c.args.text.now.items (c.loop-position.text.items ++ c.loop-position.space.chunk) c.loop-position.space.mark c.loop-position.space.places (omega arith) c.loop-position.invariant

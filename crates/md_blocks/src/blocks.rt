@@ -1,4 +1,4 @@
-//! Writes the lines of the edges of one vertex, 64 names at a time.
+//! Writes pieces for the names of one word of bits, four at a time.
 ghost use Rattle.std.specs.Prelude.{◌≡◌, ℕ, ◌+◌, ◌*◌, ◌^◌, ◌<◌, ◌≤◌, ◌∷◌, ◌++◌, length, nat_le, IfSome, IfNone, if◌then◌else◌};
 ghost use Rattle.std.specs.Int.{bit_at};
 ghost use Rattle.std.specs.List.{All};
@@ -8,51 +8,52 @@ ghost use Rattle.md_text.specs.Pieces.{piece_text, texts_at};
 use md_graph::lowest;
 use md_text::{CHUNK_SIZE, Chunk, Piece};
 
-// Gathers, for each 1 in `bits`, a line of `start` and of the piece at its place behind `first`.
-pub(crate) fn write_block(first: u32, bits: u64, start: Piece, places: &[Piece], chunk: &mut Chunk)
-    requires there { All (λ w. w < length places.now) (bits_between first bits 64) }
+// Gathers, for each 1 in `bits`, the piece `start` and the one at the index of its name: bit k is
+// for the name `first + k`.
+pub(crate) fn write_block(first: u32, bits: u64, start: Piece, pieces: &[Piece], chunk: &mut Chunk)
+    requires there { All (λ w. w < length pieces.now) (bits_between first bits 64) }
     requires fits { first + 64 < 2 ^ 32 }
     requires room { length chunk.old + 16 * 64 ≤ CHUNK_SIZE }
     ensures { chunk.new
-        ≡ chunk.old ++ texts_at places.now (piece_text start) (bits_between first bits 64) }
+        ≡ chunk.old ++ texts_at pieces.now (piece_text start) (bits_between first bits 64) }
 {
-    let left = write_fours(first, bits, start, places, chunk);
-    write_others(first, left, start, places, chunk);
+    let left = write_fours(first, bits, start, pieces, chunk);
+    write_others(first, left, start, pieces, chunk);
 }
 
-// Gathers four lines at a time, as long as there are four; says which bits are left.
+// Gathers the pieces of four names at a time, as long as there are four; says which bits are left.
 #[inline(always)]
-fn write_fours(first: u32, bits: u64, start: Piece, places: &[Piece], chunk: &mut Chunk) -> u64
-    requires there { All (λ w. w < length places.now) (bits_between first bits 64) }
+fn write_fours(first: u32, bits: u64, start: Piece, pieces: &[Piece], chunk: &mut Chunk) -> u64
+    requires there { All (λ w. w < length pieces.now) (bits_between first bits 64) }
     requires fits { first + 64 < 2 ^ 32 }
     requires room { length chunk.old + 16 * length (bits_between first bits 64) ≤ CHUNK_SIZE }
-    ensures there { All (λ w. w < length places.now) (bits_between first result 64) }
+    ensures there { All (λ w. w < length pieces.now) (bits_between first result 64) }
     ensures room { length chunk.new + 16 * length (bits_between first result 64) ≤ CHUNK_SIZE }
     ensures written { chunk.new
-        ++ texts_at places.now (piece_text start) (bits_between first result 64)
-        ≡ chunk.old ++ texts_at places.now (piece_text start) (bits_between first bits 64) }
+        ++ texts_at pieces.now (piece_text start) (bits_between first result 64)
+        ≡ chunk.old ++ texts_at pieces.now (piece_text start) (bits_between first bits 64) }
 {
     let mut left = bits;
     while let Some(found) = lowest_four(first, left) {
         let four = found.0;
-        chunk.put_each(start, places, &four);
+        chunk.put_each(start, pieces, &four);
         left = found.1;
     }
     left
 }
 
-// Gathers the lines one by one.
+// Gathers the pieces of one name after the other.
 #[inline(always)]
-fn write_others(first: u32, bits: u64, start: Piece, places: &[Piece], chunk: &mut Chunk)
-    requires there { All (λ w. w < length places.now) (bits_between first bits 64) }
+fn write_others(first: u32, bits: u64, start: Piece, pieces: &[Piece], chunk: &mut Chunk)
+    requires there { All (λ w. w < length pieces.now) (bits_between first bits 64) }
     requires fits { first + 64 < 2 ^ 32 }
     requires room { length chunk.old + 16 * length (bits_between first bits 64) ≤ CHUNK_SIZE }
     ensures { chunk.new
-        ≡ chunk.old ++ texts_at places.now (piece_text start) (bits_between first bits 64) }
+        ≡ chunk.old ++ texts_at pieces.now (piece_text start) (bits_between first bits 64) }
 {
     let mut left = bits;
     while let Some((name, others)) = lowest_name(first, left) {
-        chunk.put_both(start, places[name as usize]);
+        chunk.put_both(start, pieces[name as usize]);
         left = others;
     }
 }
@@ -86,15 +87,11 @@ fn lowest_name(first: u32, bits: u64) -> Option<(u32, u64)>
     Some((first + place, others))
 }
 
-// The bits for names at or above `from`, where bit k is for the name `first + k`.
-pub(crate) fn bits_from(bits: u64, first: u32, from: u32) -> u64
-    requires { from < first + 64 }
-    ensures { (k : ℕ) → k < 64
-        → bit_at result k ≡ (if nat_le from (first + k) then bit_at bits k else 0) }
+// The bits from a place on.
+#[inline(always)]
+pub(crate) fn bits_from(bits: u64, place: u32) -> u64
+    requires { place < 64 }
+    ensures { (k : ℕ) → k < 64 → bit_at result k ≡ (if nat_le place k then bit_at bits k else 0) }
 {
-    if from <= first {
-        return bits;
-    }
-    let place = from - first;
     bits >> place << place
 }
