@@ -34,13 +34,10 @@ turn-requires g c =
           (
             search rules,
             (
-              search rules,
+              omega arith,
               (
-                omega arith,
-                (
-                  λ a h. reached_arc (adjacent_on c.args.side c.args.graph.now) c.args.first a (c.loop-at.invariant.explored.reached a h),
-                  key_seen (adjacent_on c.args.side c.args.graph.now) c.args.first _ (side_symmetric c.args.side c.args.graph.now) c.requires.closed _ _ _ c.loop-at.invariant.explored,
-                ),
+                λ a h. reached_arc (adjacent_on c.args.side c.args.graph.now) c.args.first a (c.loop-at.invariant.explored.reached a h),
+                key_seen (adjacent_on c.args.side c.args.graph.now) c.args.first _ (side_symmetric c.args.side c.args.graph.now) c.requires.closed _ _ _ c.loop-at.invariant.explored,
               ),
             ),
           ),
