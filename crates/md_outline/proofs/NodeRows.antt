@@ -2,12 +2,12 @@
 use Rattle.std.proofs.Common.{◌≡◌, ℕ, zero, suc, ◌+◌, ◌<◌, ◌≤◌, Bool, true, List, [], ◌∷◌, length, get_or, Contains, refl, sym, ◌∙◌, ap, ap₂, subst, inl, inr, lt-ltb, ltb-true, nat_lt, arith}
 use Rattle.std.specs.Prelude.{◌↔◌}
 use Rattle.std.proofs.lemmas.Bool.{and_parts, and_from, cases_lt}
-use Rattle.std.specs.FinSet.{contains}
+use Rattle.std.specs.FinSet.{contains, intersection}
 use Rattle.md_graph.specs.Adjacency.{IsAdjacency}
 use Rattle.md_graph.specs.PlainGraph.{PlainGraph, IsGraph, adjacent, neighbours}
 use Rattle.md_graph.specs.Sets.{NameSet, Has, Within}
-use Rattle.md_graph.proofs.GraphLemmas.{contains-neighbours}
-use Rattle.md_graph.proofs.SetLemmas.{union_left, union_right}
+use Rattle.md_graph.proofs.GraphLemmas.{adjacent_ends, contains-neighbours}
+use Rattle.md_graph.proofs.SetLemmas.{union_left, union_right, same_members, meet_has, of_meet}
 use Rattle.md_modules.proofs.Modules.{undirected}
 use Rattle.md_modules.proofs.Turns.{graph_adjacency}
 use Rattle.md_text.proofs.Lists.{In, of_contains, to_contains, to_pairs}
@@ -48,6 +48,12 @@ edges_ahead {g} graph v row is y =
       λ t. let two = (edge_up (adjacent g) v y).0 t in (told ∙ two.0, (let a = two.1 in omega arith)),
       λ t. (edge_up (adjacent g) v y).1 (sym told ∙ t.0, (let a : v + 1 ≤ y = t.1 in omega arith)),
     )
+
+-- where all vertices are in a set, so are all neighbours
+pub all_near : {g : PlainGraph} → IsGraph g → (v : ℕ) (all : NameSet) → Within g.vertices all → intersection (neighbours g v) all ≡ neighbours g v
+all_near {g} graph v all inside = same_members _ _
+    (λ q h. (of_meet (neighbours g v) all q h).0)
+    (λ q h. meet_has (neighbours g v) all q h (inside q (adjacent_ends graph v q (sym (contains-neighbours graph v q) ∙ h)).1))
 
 -- of ascending names the lower one stands first
 pub stands_first : (list : List ℕ) → Ascends list → (i j : ℕ) → i < length list → j < length list → get_or list i 0 < get_or list j 0 → i < j

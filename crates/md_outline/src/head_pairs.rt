@@ -1,9 +1,10 @@
 //! Writes the pairs of a prime node, read off the rows of a graph. No list of pairs is made.
-ghost use Rattle.std.specs.Prelude.{◌≡◌, ◌+◌, ◌*◌, ◌<◌, ◌≤◌, ◌^◌, ℕ, Bool, List, [], ◌∷◌, ◌++◌, length, get_or, OnOk};
+ghost use Rattle.std.specs.Prelude.{◌≡◌, ◌+◌, ◌*◌, ◌<◌, ◌≤◌, ◌^◌, ℕ, Bool, List, [], ◌∷◌, ◌++◌, length, get_or, OnOk, IsTrue};
 ghost use Rattle.std.specs.List.{All};
 ghost use Rattle.std.specs.FinSet as set;
 ghost use Rattle.md_graph.specs.NameSet.{ascending_from};
-ghost use Rattle.md_graph.specs.PlainGraph.{adjacent};
+ghost use Rattle.md_graph.specs.PlainGraph.{adjacent, neighbours};
+ghost use Rattle.md_graph.specs.Sets.{Has, Within};
 ghost use Rattle.md_text.specs.Pieces.{piece_text, text_at};
 ghost use Rattle.md_tree.specs.declared.Pair.{Pair};
 ghost use Rattle.md_tree.specs.Spellings.{graph_pairs};
@@ -57,9 +58,16 @@ fn pair_room(places: &[Piece], heads: &[u32]) -> usize {
 fn count_pairs<const W: usize>(graph: &GraphOf<W>, heads: &[u32], all: &Set<W>) -> usize
     requires { (i : ℕ) → i < length heads.now → get_or heads.now i 0 < 64 * W }
 {
+    let whole = graph.vertices().is_subset(all);
     let mut ends: usize = 0;
     for head in heads {
-        ends = ends.saturating_add(graph.row(*head).and(all).count() as usize);
+        let row = graph.row(*head);
+        let count = if whole {
+            row.count()
+        } else {
+            row.and(all).count()
+        };
+        ends = ends.saturating_add(count as usize);
     }
     ends / 2
 }
@@ -82,11 +90,44 @@ fn gather_pairs<const W: usize>(
     let _vertices = graph.vertices();
     space.chunk.clear();
     space.mark = b';';
+    let whole = graph.vertices().is_subset(all);
     for (position, head) in heads.iter().enumerate() {
-        let near = graph.row(*head).and(all);
-        put_row(text, &near, *head + 1, position as u32, space)?;
+        put_head(text, graph, *head, all, whole, position as u32, space)?;
     }
     Ok(())
+}
+
+// Gathers the pairs of a head at the position `low`. Where all vertices are heads, which is told,
+// its row need not be cut down to heads.
+fn put_head<const W: usize>(
+    text: &mut Vec<u8>,
+    graph: &GraphOf<W>,
+    head: u32,
+    all: &Set<W>,
+    whole: bool,
+    low: u32,
+    space: &mut PairSpace,
+) -> Result<(), Memory>
+    requires vertex { Has graph.now.vertices head }
+    requires whole { IsTrue whole → Within graph.now.vertices all.now }
+    requires low { low < 10 ^ 5 }
+    requires there { All (λ v. v < length space.old.places)
+        (ascending_from (set.intersection (neighbours graph.now head) all.now) (head + 1)) }
+    ensures written { OnOk result ((e : ℕ → ℕ → Bool) (v j : ℕ) (ws : List ℕ) (more : List Pair)
+        → SpellPositions space.old.places j ws
+        → ascending_from (set.intersection (neighbours graph.now head) all.now) (head + 1)
+        ≡ near_heads e v ws
+        → (text.new.items ++ space.new.chunk) ++ pairs_text space.new.mark more
+        ≡ (text.old.items ++ space.old.chunk)
+        ++ pairs_text space.old.mark (near_pairs graph_pairs e v low j ws ++ more)) }
+    ensures places { space.new.places ≡ space.old.places }
+{
+    let _vertices = graph.vertices();
+    if whole {
+        return put_row(text, graph.row(head), head + 1, low, space);
+    }
+    let near = graph.row(head).and(all);
+    put_row(text, &near, head + 1, low, space)
 }
 
 // Gathers the pairs of the position `low` with those of the near heads from a name on. Never
