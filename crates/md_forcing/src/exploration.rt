@@ -65,6 +65,8 @@ pub fn trail_of<const W: usize>(
 /// isn't seen; the seen arcs have room for the vertices, and with an arc all that it forces are
 /// seen. One that forces none makes no set. Errors: want of memory; the seen arcs and the trail are
 /// of no use then, and keep their room.
+// Never inlined, so that its turns have the registers to themselves.
+#[inline(never)]
 pub fn explore<const W: usize>(
     graph: &GraphOf<W>,
     side: Side,
