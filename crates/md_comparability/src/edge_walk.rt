@@ -29,7 +29,11 @@ pub fn orient_classes<const W: usize>(
     ensures room { IfOk result (HasArcRoom graph.now.vertices) }
 {
     let _vertices = graph.vertices();
-    let mut explored = Explored::with_size(alloc, graph.bound())?;
+    let chosen = ArcSetOf::with_size(alloc, graph.bound())?;
+    let mut explored = Explored {
+        seen: chosen,
+        trail: ForcingTree::new(alloc),
+    };
     for u in 0..explored.seen.size() {
         if orient_classes_at(graph, side, u, &mut explored)? {
             return Ok(ClassOrChosen::Stopped(explored.trail));

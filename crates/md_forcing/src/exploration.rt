@@ -1,9 +1,7 @@
 //! The exploration of a class.
-ghost use Rattle.std.specs.Prelude.{◌≡◌, ◌++◌, [], ℕ, ◌*◌, ◌<◌, ◌≤◌, ◌^◌, length, map, IfOk, OnOk};
-ghost use Rattle.std.specs.FinSet as set;
+ghost use Rattle.std.specs.Prelude.{◌≡◌, ◌++◌, ℕ, ◌<◌, ◌≤◌, ◌^◌, length, map, IfOk, OnOk};
 ghost use Rattle.std.specs.Map.{keys_of};
 ghost use Rattle.md_graph.specs.Sets.{Has};
-ghost use Rattle.md_graph.specs.Rows.{row_of};
 ghost use Rattle.md_graph.specs.NameSet.{ascending};
 ghost use Rattle.md_graph.specs.PlainGraph.{adjacent};
 ghost use Rattle.md_forcing.specs.declared.arc.Arc.{Arc};
@@ -15,7 +13,7 @@ ghost use Rattle.md_forcing.specs.Classes.{IsClass, TakesClass};
 ghost use Rattle.md_forcing.specs.Turns.{TakesForced, tail_entry, head_entry};
 
 use crate::{Arc, ArcSetOf, Class, ForcingTree, Side};
-use md_graph::{GraphOf, Memory, Set, WORDS};
+use md_graph::{GraphOf, Memory, Set};
 use std::alloc::Global;
 
 /// What explorations of a graph, one after the other, have seen, and the trail of the last of them.
@@ -23,37 +21,13 @@ use std::alloc::Global;
 pub struct Explored<const W: usize> {
     pub seen: ArcSetOf<W>,
     pub trail: ForcingTree,
-    // Kept from exploration to exploration, so that each begins with no set to make.
-    found: Found<W>,
 }
 
-// What a turn finds: the heads and the tails of new arcs.
+// What a turn finds, kept from turn to turn: the heads and the tails of new arcs.
 #[derive(Drop)]
 struct Found<const W: usize> {
     heads: Set<W>,
     tails: Set<W>,
-}
-
-impl<const W: usize> Explored<W> {
-    /// No arc seen, with room for the arcs on the names below `size`, and an empty trail.
-    /// Conditions: `size` is at most `64 * W`, and `W` at most `WORDS`. Errors: want of memory.
-    pub fn with_size(alloc: Global, size: u32) -> Result<Explored<W>, Memory>
-        requires size { size ≤ 64 * W }
-        requires limit { W ≤ WORDS }
-        ensures room { IfOk result (λ r. length r.seen ≡ size) }
-        ensures none { IfOk result (λ r. (v : ℕ) → row_of r.seen v ≡ set.empty) }
-        ensures trail { IfOk result (λ r. r.trail ≡ []) }
-    {
-        let seen = ArcSetOf::with_size(alloc, size)?;
-        Ok(Explored {
-            seen,
-            trail: ForcingTree::new(alloc),
-            found: Found {
-                heads: Set::none(),
-                tails: Set::none(),
-            },
-        })
-    }
 }
 
 /// The class of `first`: the arcs that it reaches by direct forcings. Condition: it is an arc of
@@ -77,7 +51,11 @@ pub fn trail_of<const W: usize>(
     ensures class { IfOk result (IsClass (adjacent graph.now) first) }
 {
     let _vertices = graph.vertices();
-    let mut explored = Explored::with_size(alloc, graph.bound())?;
+    let seen = ArcSetOf::with_size(alloc, graph.bound())?;
+    let mut explored = Explored {
+        seen,
+        trail: ForcingTree::new(alloc),
+    };
     explore(graph, Side::Edges, first, &mut explored)?;
     Ok(explored.trail)
 }
@@ -85,8 +63,10 @@ pub fn trail_of<const W: usize>(
 /// Makes the trail that of `first` in the graph or in its complement: the arcs of its class, which
 /// join the seen arcs. The trail takes the memory. Conditions: `first` is an arc of this side that
 /// isn't seen; the seen arcs have room for the vertices, and with an arc all that it forces are
-/// seen. Errors: want of memory; the seen arcs and the trail are of no use then, and keep their
-/// room.
+/// seen. One that forces none makes no set. Errors: want of memory; the seen arcs and the trail are
+/// of no use then, and keep their room.
+// Never inlined, so that its turns have the registers to themselves.
+#[inline(never)]
 pub fn explore<const W: usize>(
     graph: &GraphOf<W>,
     side: Side,
@@ -108,9 +88,16 @@ pub fn explore<const W: usize>(
     explored.trail.clear();
     explored.trail.push(first, 0)?;
     explored.seen.put(first);
+    if explored.seen.has_forced_by(graph, side, first) {
+        return Ok(());
+    }
+    let mut found = Found {
+        heads: Set::none(),
+        tails: Set::none(),
+    };
     let mut at = 0usize;
     while (at as u64) < explored.trail.len() {
-        turn(graph, side, at, explored)?;
+        turn(graph, side, at, explored, &mut found)?;
         at += 1;
     }
     Ok(())
@@ -123,6 +110,7 @@ fn turn<const W: usize>(
     side: Side,
     at: usize,
     explored: &mut Explored<W>,
+    found: &mut Found<W>,
 ) -> Result<(), Memory>
     requires room { (v : ℕ) → Has graph.now.vertices v → v < length explored.old.seen }
     requires more { at < length explored.old.trail }
@@ -138,7 +126,7 @@ fn turn<const W: usize>(
     let _vertices = graph.vertices();
     let (by, _) = explored.trail.entry(at);
     let place = at as u32;
-    let Explored { seen, trail, found } = explored;
+    let Explored { seen, trail } = explored;
     seen.unseen_heads(graph, side, by, &mut found.heads);
     seen.unseen_tails(graph, side, by, &mut found.tails);
     seen.take_heads(by.tail, &found.heads);

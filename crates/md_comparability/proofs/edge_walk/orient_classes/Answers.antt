@@ -8,7 +8,7 @@ use Rattle.md_comparability.proofs.edge_walk.orient_classes.Goals as goal
 
 pub loop-u-init : goal.loop-u-init
 loop-u-init g c = record {
-  walked = walked_start (adjacent_on c.args.side c.args.graph.now) _ (none_seen _ c.in_ok-explored.ensures.none);
+  walked = walked_start (adjacent_on c.args.side c.args.graph.now) _ (none_seen _ c.in_ok-chosen.ensures.none);
   room = refl;
 }
 
@@ -16,6 +16,6 @@ pub returns-clause-ending : goal.returns-clause-ending
 returns-clause-ending g c =
     walked_whole (adjacent_on c.args.side c.args.graph.now) (side_premises c.vertices-vertices.ensures.graph c.args.side).adjacency c.loop-u.u _ c.loop-u.invariant.walked (λ x y h.
     let above = c.bound.ensures.above x (side_ends c.vertices-vertices.ensures.graph c.args.side x y h).0 in
-    let room = c.in_ok-explored.ensures.room in
+    let room = c.in_ok-chosen.ensures.room in
     let size = c.size-u-end.ensures.size in
     omega arith)

@@ -10,9 +10,9 @@ explore-requires g c = (
     (
       λ v h.
           let above = c.bound.ensures.above v h in
-          let size = c.in_ok-explored.ensures.room in
+          let size = c.in_ok-seen.ensures.room in
           omega arith,
-      (search rules, (none_seen _ c.in_ok-explored.ensures.none c.args.first, λ a b h _ _. absurd (none_seen _ c.in_ok-explored.ensures.none a h))),
+      (search rules, (none_seen _ c.in_ok-seen.ensures.none c.args.first, λ a b h _ _. absurd (none_seen _ c.in_ok-seen.ensures.none a h))),
     ),
   ),
 )
