@@ -8,13 +8,14 @@ ghost use Rattle.md_text.specs.Pieces.{piece_text, texts_at};
 use md_graph::lowest;
 use md_text::{CHUNK_SIZE, Chunk, Piece};
 
-// Gathers, for each 1 in `bits`, the piece `start` and the one at the index of its name: bit k is
-// for the name `first + k`.
-pub(crate) fn write_block(first: u32, bits: u64, start: Piece, pieces: &[Piece], chunk: &mut Chunk)
+/// Gathers, for each 1 in `bits`, the piece `start` and the one at the index of its name: bit k is
+/// for the name `first + k`. Conditions: there is such a piece for each of them, the names fit 32
+/// bits, and the chunk has room for the pieces of 64 names.
+pub fn write_block(first: u32, bits: u64, start: Piece, pieces: &[Piece], chunk: &mut Chunk)
     requires there { All (λ w. w < length pieces.now) (bits_between first bits 64) }
     requires fits { first + 64 < 2 ^ 32 }
     requires room { length chunk.old + 16 * 64 ≤ CHUNK_SIZE }
-    ensures { chunk.new
+    ensures written { chunk.new
         ≡ chunk.old ++ texts_at pieces.now (piece_text start) (bits_between first bits 64) }
 {
     let left = write_fours(first, bits, start, pieces, chunk);
@@ -87,11 +88,11 @@ fn lowest_name(first: u32, bits: u64) -> Option<(u32, u64)>
     Some((first + place, others))
 }
 
-// The bits from a place on.
+/// The bits from a place on. Condition: the place is below 64.
 #[inline(always)]
-pub(crate) fn bits_from(bits: u64, place: u32) -> u64
-    requires { place < 64 }
-    ensures { (k : ℕ) → k < 64 → bit_at result k ≡ (if nat_le place k then bit_at bits k else 0) }
+pub fn bits_from(bits: u64, place: u32) -> u64
+    requires place { place < 64 }
+    ensures bits { (k : ℕ) → k < 64 → bit_at result k ≡ (if nat_le place k then bit_at bits k else 0) }
 {
     bits >> place << place
 }

@@ -2,6 +2,7 @@
 use Rattle.std.specs.Prelude.{◌≡◌, ℕ, ◌+◌, ◌^◌, ◌<◌, ◌≤◌, List, ◌∷◌, length}
 use Rattle.std.proofs.Common.{subst, ap, sym, ◌∙◌, arith, length-append}
 use Rattle.std.proofs.lemmas.Bool.{false_from_ne_true}
+use Rattle.md_blocks.proofs.BlockLemmas.{nothing_below}
 use Rattle.md_graph.specs.declared.TheConstants.{NAMES}
 use Rattle.md_graph.specs.Sets.{NameSet, Has}
 use Rattle.md_graph.specs.NameSet.{ascending, ascending_between}
@@ -9,7 +10,6 @@ use Rattle.md_graph.specs.PlainGraph.{PlainGraph, IsGraph, neighbours}
 use Rattle.md_graph.proofs.GraphLemmas.{adjacent_ends, contains-neighbours}
 use Rattle.md_graph.proofs.Limits.{NAMES-lt}
 use Rattle.md_graph.proofs.NameLemmas.{IsFirstItem, few_below, ascending_none, ascending_split, ascending_step, walk_turn}
-use Rattle.md_blocks.proofs.BlockLemmas.{nothing_below}
 use Rattle.md_dimacs.specs.Text.{position}
 
 -- ---- how many there are

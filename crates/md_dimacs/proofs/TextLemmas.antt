@@ -38,6 +38,15 @@ row_lines-cons g v w ws =
 pub row_lines-nil : (g : PlainGraph) (v : ℕ) → row_lines g v [] ≡ []
 row_lines-nil g v = ended-nil
 
+pub row_lines-append : (g : PlainGraph) (v : ℕ) (xs ys : List ℕ) → row_lines g v (xs ++ ys) ≡ row_lines g v xs ++ row_lines g v ys
+row_lines-append g v xs ys =
+    ap (λ ps. ended (map edge_line ps)) (map-append (places_of g v) xs ys)
+    ∙ ap ended (map-append edge_line (map (places_of g v) xs) (map (places_of g v) ys))
+    ∙ ended-append (map edge_line (map (places_of g v) xs)) (map edge_line (map (places_of g v) ys))
+
+pub row_end : (g : PlainGraph) (v : ℕ) (xs held total : List ℕ) → held ++ row_lines g v xs ≡ total → xs ≡ [] → held ≡ total
+row_end g v xs held total before e = sym (append-nil held) ∙ ap (λ l. held ++ l) (sym (ap (row_lines g v) e ∙ ended-nil)) ∙ before
+
 -- ---- all rows
 
 abbrev pub rows_lines : PlainGraph → List ℕ → List ℕ

@@ -1,5 +1,6 @@
 -- The places of vertices, spelled as pieces of text.
 use Rattle.std.specs.Prelude.{◌≡◌, ℕ, ◌<◌, ◌≤◌, List, [], ◌∷◌, ◌++◌, length, map, slice_index_or, codes}
+use Rattle.md_graph.specs.declared.TheConstants.{NAMES}
 use Rattle.md_graph.specs.Sets.{Has}
 use Rattle.md_graph.specs.PlainGraph.{PlainGraph}
 use Rattle.md_text.specs.Lines.{ended}
@@ -14,9 +15,10 @@ pub record IsPlaceOf (g : PlainGraph) (places : List Piece) (w : ℕ) : Type 0 w
   pub text : (other : Piece) → piece_text (slice_index_or places w other) ≡ 32 ∷ (decimal (position g w) ++ 10 ∷ [])
   pub short : (other : Piece) → length (piece_text (slice_index_or places w other)) ≤ 7
 
--- each vertex has its place at its index
-abbrev pub ArePlaces : PlainGraph → List Piece → Type 0
-ArePlaces g places = (w : ℕ) → Has g.vertices w → IsPlaceOf g places w
+-- each vertex has its place at its index, and there are not more than names
+pub record ArePlaces (g : PlainGraph) (places : List Piece) : Type 0 where
+  pub place_of : (w : ℕ) → Has g.vertices w → IsPlaceOf g places w
+  pub named : length places ≤ NAMES
 
 -- `e i`, which begins each line of the edges of v to the vertices above it
 abbrev pub line_start : PlainGraph → ℕ → List ℕ

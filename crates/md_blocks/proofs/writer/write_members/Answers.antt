@@ -28,7 +28,7 @@ loop-next-preserved g c =
     let put = subst (λ n. ArePut c.args.set.now n c.args.pieces.now (piece_text c.args.start) now total) c.in-Some-next.is c.loop-next.invariant in
     let word = c.next_word-next.ensures in
     words_more c.args.set.now c.args.pieces.now (piece_text c.args.start) c.in-Some-next.first c.in-Some-next.bits now total put c.next_word-next.result (c.make_room.new.text.items ++ c.write_block.new.chunk)
-    (word_put c.args.pieces.now (piece_text c.args.start) c.loop-next.text.items c.loop-next.chunk c.make_room.new.text.items c.make_room.new.self c.write_block.new.chunk _ c.in_ok-make_room.ensures.same c.write_block.ensures)
+    (word_put c.args.pieces.now (piece_text c.args.start) c.loop-next.text.items c.loop-next.chunk c.make_room.new.text.items c.make_room.new.self c.write_block.new.chunk _ c.in_ok-make_room.ensures.same c.write_block.ensures.written)
     word.named word.aligned word.members word.none
 
 pub returns : goal.returns
