@@ -14,24 +14,21 @@ use Rattle.md_text.proofs.Lists.{In, Later, of_contains, to_contains, of_pairs}
 use Rattle.md_tree.specs.Trees.{names, names_below, names_at, row}
 use Rattle.md_tree.specs.StrongTrees.{StandBy, ListsExactly}
 use Rattle.md_tree.proofs.Nodes.{IsChild, child_inside, child_of_name}
-use Rattle.md_tree.proofs.Built.{IsChildSet, IsBuiltBy}
+use Rattle.md_tree.proofs.Built.{IsChildSet}
 use Rattle.md_decompose.specs.Children.{set_at}
 use Rattle.md_decompose.proofs.Joining.{child_in, of_child, at_row, in_order, spread, two_parts, weights}
 use Rattle.md_dtree.specs.declared.DKind.{DKind}
 use Rattle.md_dtree.specs.declared.DKind.TheVariants.{Parallel, Series, Order, Prime}
 use Rattle.md_dtree.specs.declared.DPair.{DPair}
 use Rattle.md_dtree.specs.DirectedSpelling.{directed_pairs}
-use Rattle.md_dtree.specs.DirectedTrees.{PlainDTree, PlainDTrees, arc_forth, SplitsWith, HasDirectedKind, AllArcsTo, StandsBefore, IsArcPair, HasArcPairs, IsDirectedNode}
+use Rattle.md_dtree.specs.DirectedTrees.{PlainDTree, arc_forth, SplitsWith, HasDirectedKind, AllArcsTo, StandsBefore, IsArcPair, HasArcPairs}
 use Rattle.md_dtree.proofs.ArcKinds.{directed_kinds_law}
-use Rattle.md_dtree.proofs.DirectedCanonical.{unsplit_prime}
+use Rattle.md_dtree.proofs.DirectedCanonical.{IsDBuilt, unsplit_prime}
 use Rattle.md_ddecompose.specs.Children.{AreDirectedChildren, DiffersFrom, IsArcOfSets, ListsArcsFor}
 
 module _ (arc : ℕ → ℕ → Bool) where
   abbrev e : ℕ → ℕ → ArcColour
   e = between arc
-
-  abbrev pub IsDBuilt : DKind → PlainDTrees → List DPair → Type 0
-  IsDBuilt = IsBuiltBy (IsDirectedNode arc) e
 
   -- ---- kinds
 
@@ -109,7 +106,7 @@ module _ (arc : ℕ → ℕ → Bool) where
           let c : IsChildSet (row ts) m.0 = to_child m.0 m.1 in
           child_inside (row ts) c.0 c.1 x (subst (λ w. Has w x) c.2 m.2))
 
-      pub node_built : (ps : List DPair) → HasDirectedKind arc s k → ListsArcsFor arc k cs ps → IsDBuilt k (row ts) ps
+      pub node_built : (ps : List DPair) → HasDirectedKind arc s k → ListsArcsFor arc k cs ps → IsDBuilt arc k (row ts) ps
       node_built ps kind lists = record {
         node_of = record {
           kind = subst (λ w. HasDirectedKind arc w k) (sym all_names) kind;

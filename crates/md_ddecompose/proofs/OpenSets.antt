@@ -17,10 +17,11 @@ use Rattle.md_dtree.specs.declared.DKind.{DKind}
 use Rattle.md_dtree.specs.declared.DPair.{DPair}
 use Rattle.md_dtree.specs.DirectedTrees.{PlainDTree, IsDirectedTreeOf}
 use Rattle.md_dtree.proofs.ArcKinds.{directed_kinds_law, two_of_kind}
+use Rattle.md_dtree.proofs.DirectedCanonical.{IsDBuilt}
 use Rattle.md_ddecompose.specs.declared.decomposition.Open.{Open}
 use Rattle.md_ddecompose.specs.Children.{DiffersFrom}
 use Rattle.md_ddecompose.specs.Turns.{open_below, IsDPartOf, IsTakenApart}
-use Rattle.md_ddecompose.proofs.DirectedNodes.{IsDBuilt, child_differs, all_names, node_built, child_maximal, children_fall}
+use Rattle.md_ddecompose.proofs.DirectedNodes.{child_differs, all_names, node_built, child_maximal, children_fall}
 
 abbrev names_of : {w : ℕ} → Open w → NameSet
 names_of o = o.names
