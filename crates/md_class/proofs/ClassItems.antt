@@ -20,6 +20,7 @@ use Rattle.md_report.specs.Cographs.{IsCograph}
 use Rattle.md_report.specs.Lines.{PlainLine, applied, refused, refused_bar, group_refused_bar}
 use Rattle.md_report.specs.Sessions.{led_to, is_applied}
 use Rattle.md_report.specs.Steps.{state_of}
+use Rattle.md_report.proofs.AllowedGraphs.{allowed_cograph}
 use Rattle.md_report.proofs.Groups.{drop_read, past_applied, whole_line}
 use Rattle.md_report.proofs.Stepping.{refused_step, led_step, all_graph}
 use Rattle.md_report.specs.Classes.{IsAllowedIn, IsBarOf, IsClassLineBy}
@@ -32,7 +33,6 @@ use Rattle.md_class.specs.declared.answers.ItemAnswer.TheVariants as answers
 use Rattle.md_class.specs.declared.answers.Told.{Told}
 use Rattle.md_class.specs.ItemAnswers.{IsItemRefusal, IsItemAnswer}
 use Rattle.md_cograph.proofs.GoingBack.{same_rest}
-use Rattle.md_class.proofs.ClassGraphs.{allowed_cograph}
 
 -- a line at which a group ends is its line, whatever stands behind, and refuses it
 end_line : (class : Class) (o : Option EditReason) (n : ℕ) (h : PlainGraph) (Behind : Type 0) (line : PlainLine) → IsLineAt o (Of class) n h ⊥ line → IsLineAt o (Of class) n h Behind line × (is_applied line ≡ false)
