@@ -1,7 +1,6 @@
 -- Graphs of a class, and histories over them.
 use Rattle.std.proofs.Common.{ℕ, List, [], ◌∷◌, Option}
 use Rattle.md_graph.specs.PlainGraph.{PlainGraph, adjacent}
-use Rattle.md_modules.specs.declared.induced_paths.P4.{P4}
 use Rattle.md_modules.proofs.Turns.{graph_adjacency}
 use Rattle.md_tree.specs.Trees.{PlainTree}
 use Rattle.md_tree.specs.StrongTrees.{IsTree}
@@ -15,18 +14,9 @@ use Rattle.md_script.specs.declared.edit.Edit.{Edit}
 use Rattle.md_script.specs.Pasts.{taken_back}
 use Rattle.md_script.specs.Histories.{HistoryFits}
 use Rattle.md_script.proofs.GroupLemmas.{back_weaker}
-use Rattle.md_report.specs.Lines.{path_bar}
-use Rattle.md_report.specs.Cographs.{IsP4Of, IsCograph}
-use Rattle.md_report.specs.Classes.{IsAllowedIn, IsBarOf}
-
--- ---- induced P4s
-
-pub path_bars : (class : Class) (g : PlainGraph) (p : P4) → IsP4Of g p → IsBarOf class g (path_bar p)
-path_bars class g p path = record { bars = tt; is = path }
-
-pub allowed_cograph : (class : Class) (g : PlainGraph) → IsAllowedIn class g → IsCograph g
-allowed_cograph class g free path =
-    let p : P4 = record { a = path.0; b = path.1; c = path.2; d = path.3 } in free (path_bar p, path_bars class g p path.4)
+use Rattle.md_report.specs.Cographs.{IsCograph}
+use Rattle.md_report.specs.Classes.{IsAllowedIn}
+use Rattle.md_report.proofs.AllowedGraphs.{allowed_cograph}
 
 -- ---- few inner children
 

@@ -17,9 +17,10 @@ use Rattle.md_script.specs.Histories.{HistoryFits}
 use Rattle.md_script.proofs.BackLemmas.{inverse_back}
 use Rattle.md_script.proofs.GroupLemmas.{GoesBack, back_weaker, kept_goes_back, one_goes_back}
 use Rattle.md_report.specs.Cographs.{IsCograph}
-use Rattle.md_report.specs.Lines.{PlainLine, applied, refused, refused_bar, group_refused, group_refused_bar}
+use Rattle.md_report.specs.Lines.{PlainLine, applied, refused, refused_bar, group_refused_bar}
 use Rattle.md_report.specs.Sessions.{led_to, is_applied}
 use Rattle.md_report.specs.Steps.{state_of}
+use Rattle.md_report.proofs.AllowedGraphs.{allowed_cograph}
 use Rattle.md_report.proofs.Groups.{drop_read, past_applied, whole_line}
 use Rattle.md_report.proofs.Stepping.{refused_step, led_step, all_graph}
 use Rattle.md_report.specs.Classes.{IsAllowedIn, IsBarOf, IsClassLineBy}
@@ -32,7 +33,6 @@ use Rattle.md_class.specs.declared.answers.ItemAnswer.TheVariants as answers
 use Rattle.md_class.specs.declared.answers.Told.{Told}
 use Rattle.md_class.specs.ItemAnswers.{IsItemRefusal, IsItemAnswer}
 use Rattle.md_cograph.proofs.GoingBack.{same_rest}
-use Rattle.md_class.proofs.ClassGraphs.{allowed_cograph}
 
 -- a line at which a group ends is its line, whatever stands behind, and refuses it
 end_line : (class : Class) (o : Option EditReason) (n : ℕ) (h : PlainGraph) (Behind : Type 0) (line : PlainLine) → IsLineAt o (Of class) n h ⊥ line → IsLineAt o (Of class) n h Behind line × (is_applied line ≡ false)
@@ -110,10 +110,6 @@ module _ (limit : ℕ) (class : Class) (g : PlainGraph) (items : List (List Edit
 -- ---- the line at which a group ends
 
 module _ (class : Class) (h next : PlainGraph) (edit : Edit) (n : ℕ) (same : next ≡ h) where
-  pub reason_ends : (reason : EditReason) → reason_of h edit ≡ Some reason → IsLineAt (reason_of next edit) (Of class) (n + 1) (after next edit) ⊥ (group_refused (n + 1) reason)
-  reason_ends reason against =
-      subst (λ o. IsLineAt o (Of class) (n + 1) (after next edit) ⊥ (group_refused (n + 1) reason)) (sym (ap (λ (k : PlainGraph). reason_of k edit) same ∙ against)) refl
-
   pub bar_ends : (bar : Bar) → reason_of h edit ≡ None → IsBarOf class (after h edit) bar → IsLineAt (reason_of next edit) (Of class) (n + 1) (after next edit) ⊥ (group_refused_bar (n + 1) bar)
   bar_ends bar none is =
       subst (λ o. IsLineAt o (Of class) (n + 1) (after next edit) ⊥ (group_refused_bar (n + 1) bar)) (sym (ap (λ (k : PlainGraph). reason_of k edit) same ∙ none))

@@ -34,7 +34,7 @@ use Rattle.md_decompose.specs.Turns.{open_names, IsOpenOf, IsNoVertexAlone, IsUn
 use Rattle.md_decompose.proofs.ChainLemmas.{steps_none, steps_inside}
 use Rattle.md_decompose.proofs.Turned.{reverse_more, in_reverse, each_reverse, laid_outlines, outlines_laid}
 use Rattle.md_decompose.proofs.Waiting.{no_trees, count_trees, IsLaidBackward, laid_parts, GoesOn, IsPartOver, goes_begin, goes_more, goes_end}
-use Rattle.md_decompose.proofs.Joining.{has_pairs, all_names, node_built, weights, weights-append, weights-reverse, child_maximal, children_fall}
+use Rattle.md_decompose.proofs.Joining.{has_pairs, all_names, node_built, weights, weights-append, weights-reverse, not_before, child_maximal, children_fall}
 
 in_sets : {w : ℕ} (os : List (Open w)) (o : Open w) → In os o → In (sets_of os) (open_names o)
 in_sets [] o i = absurd i
@@ -280,12 +280,12 @@ module _ {e : ℕ → ℕ → Bool} (adj : IsAdjacency e) where
     node_two = two_of_kind e s k is.kind
 
     node_falls : weights (sets_of os) < 2 * len s - 1
-    node_falls = children_fall s (sets_of os) is.children node_two
+    node_falls = children_fall s IsBefore not_before (sets_of os) is.children.exactly is.children.order decide_test node_two
 
     node_ready : (q : Open w) → In os q → IsReady e s q
     node_ready q i =
         let below : IsUnder (Some k) q × HasChain e q = is.each q (to_contains os q i) in
-        let max : IsMaximalStrong e s (open_names q) = child_maximal s (sets_of os) is.children (open_names q) (in_sets os q i) in
+        let max : IsMaximalStrong e s (open_names q) = child_maximal s (sets_of os) is.children.exactly (open_names q) (in_sets os q i) in
         record {
           some = max.is_strong.is_module.some;
           two = no_vertex (Some k) q below.0 max.is_strong.is_module.some;
@@ -296,7 +296,7 @@ module _ {e : ℕ → ℕ → Bool} (adj : IsAdjacency e) where
 
     module _ (us : List PlainTree) (same : map names us ≡ sets_of os) (each : EachNodeBelow (IsBuilt e) (row us)) (ps : List Pair) (pairs : HasPairs e k (row us) ps) where
       node_names : names (node k (row us) ps) ≡ s
-      node_names = all_names e us (sets_of os) same s is.children node_two
+      node_names = all_names us (sets_of os) same s is.children.exactly decide_test node_two
 
       node_each : EachNode (IsBuilt e) (node k (row us) ps)
       node_each = (node_built e us (sets_of os) same s is.children node_two k ps is.kind pairs, each)

@@ -9,7 +9,7 @@ use Rattle.md_script.proofs.ChangeLemmas.{names_within}
 use Rattle.md_report.specs.Cographs.{IsCograph}
 use Rattle.md_class.specs.declared.items.Fit.TheVariants as fits
 use Rattle.md_class.specs.ClassAnswers.{IsFitOf}
-use Rattle.md_class.proofs.ClassGraphs.{allowed_cograph}
+use Rattle.md_report.proofs.AllowedGraphs.{allowed_cograph}
 use Rattle.md_class.proofs.items.step.Goals as goal
 
 pub change-requires-clause-denotes : goal.change-requires-clause-denotes

@@ -7,13 +7,13 @@ use Rattle.md_graph.specs.PlainGraph.{adjacent}
 use Rattle.md_graph.proofs.NameLemmas.{length-ascending}
 use Rattle.md_graph.proofs.MemberLists.{few_in}
 use Rattle.md_graph.specs.Sets.{Within, HasTwo}
-use Rattle.md_tree.specs.StrongTrees.{HasKind}
+use Rattle.md_tree.specs.StrongTrees.{HasKind, IsBefore}
 use Rattle.md_decompose.specs.Children.{AreChildren, FitsBelow}
 use Rattle.md_decompose.specs.Chains.{IsChainOf}
 use Rattle.md_decompose.specs.declared.decomposition.Open.TheVariants.{One}
 use Rattle.md_decompose.specs.Turns.{IsNode}
 use Rattle.md_outline.specs.declared.outline.OutlinePart.TheVariants.{Name, Node}
-use Rattle.md_decompose.proofs.Joining.{children_few}
+use Rattle.md_decompose.proofs.Joining.{not_before, children_few}
 use Rattle.md_decompose.proofs.Opened.{opened_node, opened_from, chain_known}
 use Rattle.md_tree.proofs.Stacking.{if_ok}
 use Rattle.md_decompose.proofs.outline.outline_set_apart.Goals as goal
@@ -82,7 +82,7 @@ pub overflow_cast-len : goal.overflow_cast-len
 overflow_cast-len g c =
     let s = c.args.set.names in
     let sets : AreChildren (adjacent c.args.graph.now) s c.in_ok-kind.sets.items = subst (λ t. AreChildren (adjacent c.args.graph.now) t c.in_ok-kind.sets.items) c.set_in-set.ensures.value c.in_ok-kind.ensures.sets in
-    let few : length c.in_ok-kind.sets.items ≤ 2 * len s = children_few s c.in_ok-kind.sets.items sets in
+    let few : length c.in_ok-kind.sets.items ≤ 2 * len s = children_few s IsBefore not_before c.in_ok-kind.sets.items sets.exactly sets.order in
     let below : AllBelow s NAMES = λ v h. c.vertices-vertices.ensures.graph.names v (c.requires.inside v h) in
     let names = length-ascending s NAMES below in
     let all = few_in s NAMES below (omega arith) in
