@@ -49,7 +49,7 @@ fn check_line(rt: &impl Abort, alloc: Global, line: &ClassLine, text: &str) -> R
 }
 
 // The session on a graph of a class.
-fn opened<const W: usize>(
+fn session_of<const W: usize>(
     rt: &impl Abort,
     alloc: Global,
     class: Class,
@@ -106,7 +106,7 @@ fn check(
     lines: &[&str],
     last: &str,
 ) -> Result<(), Memory> {
-    let mut session = opened(rt, alloc, class, graph)?;
+    let mut session = session_of(rt, alloc, class, graph)?;
     let mut history = History::new(alloc)?;
     assert_eq!(rt; script.len() as usize, lines.len());
     for (i, expected) in lines.iter().enumerate() {
@@ -184,7 +184,7 @@ fn refused_edge<L: Ledger>(rt: &impl Abort, alloc: Global, blank: Blank) -> Resu
 {
     let mut steps = Steps::<L>::new(blank);
     let graph = graph_of(rt, alloc, 4, &[(0, 1), (2, 3)])?;
-    let mut session = opened(rt, alloc, Class::Trivial, graph)?;
+    let mut session = session_of(rt, alloc, Class::Trivial, graph)?;
     let mut history = HistoryOf::<1>::new(alloc)?;
     history.reserve(alloc, 2)?;
     let item = Item::One(Edit::AddEdge { u: 1, v: 2 });

@@ -113,7 +113,7 @@ fn narrow_session(rt: HostRuntime) -> Result<(), Fail> {
 }
 
 // The session on a cograph.
-fn opened<const W: usize>(
+fn session_of<const W: usize>(
     rt: &impl Abort,
     alloc: Global,
     graph: GraphOf<W>,
@@ -167,7 +167,7 @@ fn answers<L: Ledger>(
     requires some { 0 < blank.parts }
 {
     let mut steps = Steps::<L>::new(blank);
-    let mut session = opened(rt, alloc, Graph::new(alloc)?)?;
+    let mut session = session_of(rt, alloc, Graph::new(alloc)?)?;
     assert_eq!(rt; script.len() as usize, expected.len());
     for (i, answer) in expected.iter().enumerate() {
         assert!(rt; (i as u64) < script.len());
@@ -216,7 +216,7 @@ fn edit_of_a_cograph<L: Ledger>(rt: &impl Abort, alloc: Global, blank: Blank) ->
     requires some { 0 < blank.parts }
 {
     let mut steps = Steps::<L>::new(blank);
-    let mut session = opened(rt, alloc, graph_of(rt, alloc, 3, &[(0, 1)])?)?;
+    let mut session = session_of(rt, alloc, graph_of(rt, alloc, 3, &[(0, 1)])?)?;
     let edit = Edit::DelVertex { x: 1 };
     assert_eq!(rt; session.apply(&edit, &mut steps), Answer::Applied);
     assert_eq!(rt; session.vertex_count(), 2);
@@ -298,7 +298,7 @@ fn undo_on_a_cograph<L: Ledger>(rt: &impl Abort, alloc: Global, blank: Blank) ->
     requires some { 0 < blank.parts }
 {
     let mut steps = Steps::<L>::new(blank);
-    let mut session = opened(rt, alloc, graph_of(rt, alloc, 3, &[(0, 1)])?)?;
+    let mut session = session_of(rt, alloc, graph_of(rt, alloc, 3, &[(0, 1)])?)?;
     let mut history = HistoryOf::<1>::new(alloc)?;
     history.reserve(alloc, 2)?;
     let item = Item::One(Edit::DelVertex { x: 1 });
