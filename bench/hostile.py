@@ -1,5 +1,5 @@
 #!/usr/bin/env python3
-"""Runs of every command under hostile conditions: refused memory, failing reads and writes, little memory, a short stack.
+"""Runs of every command under hostile conditions: refused memory, failing reads and writes, little room, a short stack.
 
     python3 bench/hostile.py                builds the program and tries it
     python3 bench/hostile.py --bin PATH     tries a program that is built already
@@ -18,8 +18,8 @@ and for trees of depth 1,000:
     each takes one byte alone in turn;
   * each opening of a file fails in turn, and each read fails in turn, for an error of the device and since there is
     nothing yet; each is interrupted by a signal in turn, and each takes one byte alone in turn, and all do;
-  * each file is absent in turn, or a folder, or may not be read; it is a named pipe, or standard input, whose bytes come
-    in pieces; before each read the file grows, or loses half of what wasn't read;
+  * each file is absent in turn, or a folder, or may not be read; it is a named pipe, or standard input, whose bytes
+    come in pieces; before each read the file grows, or loses half of what wasn't read;
   * the address space is limited, from 2 to 60 MB.
 
 Trees of depth 4,095, and texts that nest deeper than any tree, are tried with a stack of 512 KB, and sessions over a

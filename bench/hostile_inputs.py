@@ -33,6 +33,12 @@ def from_one(script):
     return re.sub(rb"\d+", lambda name: b"%d" % (int(name[0]) + 1), script)
 
 
+def deep_script(n):
+    """Over the threshold graph on so many vertices: the last goes and comes back, an edge goes whose end would make an
+    induced path, and a group is applied and taken back."""
+    return b"-v %d\nundo\n-e 1 3\nbegin\n-v 0\n+v 0\ncommit\nundo\n" % (n - 1)
+
+
 def nested(lead, opening, levels):
     """A report whose tree is nested deeper than any tree is."""
     return lead + b"\nt " + opening * levels + b"0" + b")" * levels * opening.count(b"(") + b"\nend\n"
@@ -84,12 +90,12 @@ FILES = {
     "hundred.txt": b"-v 3\n+v 3 0 1 2\nundo\nbegin\n-v 5\n-v 6\ncommit\n+e 0 0\nundo\nundo\n",
     "deep.d6": d6(nested_orders(1001)),
     "deep.g6": g6(threshold(1001)),
-    "deep.txt": b"-v 1000\n-v 500\n",
+    "deep.txt": deep_script(1001),
     "deepest.g6": g6(threshold(4096)),
     "deepest.d6": d6(nested_orders(4096)),
-    "deepest.txt": b"-v 4095\n",
+    "deepest.txt": deep_script(4096),
     "largest.g6": g6(threshold(16384)),
-    "largest.txt": b"-v 16383\n",
+    "largest.txt": deep_script(16384),
     "nested.txt": nested(b"mdt tree", b"S(1,P(2,", 100000),
     "nested_edit.txt": nested(b"mdt edit", b"R(", 300000),
     "nested_dtree.txt": nested(b"mdt dtree", b"O(", 300000),

@@ -1,4 +1,4 @@
-"""Runs the program with requests for memory, writes, openings and reads that are refused, by the counter of refuse.c."""
+"""Runs the program with requests for memory, writes and loads that are refused, by the counter of refuse.c."""
 import collections
 import ctypes
 import os
