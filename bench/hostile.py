@@ -15,7 +15,8 @@ and for trees of depth 1,000:
   * each of the first 2,000 requests for memory is refused in turn, alone and with all behind it;
   * each write to standard output, and to standard error, fails in turn, for want of room and since the pipe is closed,
     or takes nothing, or takes half of its bytes before the next one fails; each is interrupted by a signal in turn, and
-    each takes one byte alone in turn;
+    each takes one byte alone in turn; standard output is full, closed, open for reading alone, or a pipe that nobody
+    reads;
   * each opening of a file fails in turn, and each read fails in turn, for an error of the device and since there is
     nothing yet; each is interrupted by a signal in turn, and each takes one byte alone in turn, and all do;
   * each file is absent in turn, or a folder, or may not be read; it is a named pipe, or standard input, whose bytes
@@ -123,6 +124,22 @@ def try_write(program, case, how, number, limits):
     return ended, (case.after_failed_write if descriptor == 1 else case.after_failed_line)(ended)
 
 
+def try_output(program, case, what, number, limits):
+    """Standard output is something that can't be written to, which the run finds out where it has output."""
+    if what == "closed":
+        ended = program.run(case.words, out=None, closed=[1])
+    elif what == "without reader":
+        reader, writer = os.pipe()
+        os.close(reader)
+        ended = program.run(case.words, out=writer)
+        os.close(writer)
+    else:
+        path, mode = {"full": ("/dev/full", "wb"), "for reading": (os.devnull, "rb")}[what]
+        with open(path, mode) as file:
+            ended = program.run(case.words, out=file)
+    return ended, ended == (Ended(WRITE_FAULT[0], b"", WRITE_FAULT[1]) if case.right.out else case.right)
+
+
 def try_open(program, case, error, number, limits):
     ended = program.run(case.words, {"OPEN": number, "ERROR": error})
     return ended, ended == READ_FAULT
@@ -214,6 +231,7 @@ TRIES = {
     "space": try_space,
     "stack": try_stack,
     "write": try_write,
+    "output": try_output,
     "open": try_open,
     "read": try_read,
     "change": try_change,
@@ -264,6 +282,8 @@ def failed_writes(at, case, quick):
             yield at, "write", (descriptor, "ENOSPC"), "%d+" % n, ()
             for error in ("ENOSPC", "EPIPE", "EINTR", "SHORT", "NOTHING", "PART"):
                 yield at, "write", (descriptor, error), n, ()
+    for what in ("full", "closed", "for reading", "without reader"):
+        yield at, "output", what, "", ()
 
 
 def failed_loads(at, case, quick):

@@ -42,9 +42,11 @@ class Program:
     def __init__(self, binary, counter, where):
         self.binary, self.counter, self.where = binary, counter, where
 
-    def run(self, words, refuse=None, limits=(), out=subprocess.PIPE, stdin=subprocess.DEVNULL, plain_user=False):
+    def run(self, words, refuse=None, limits=(), out=subprocess.PIPE, stdin=subprocess.DEVNULL, closed=(),
+            plain_user=False):
         """One run in the folder. `refuse` holds the counter's variables, without their beginning; `limits` are pairs of
-        a limit of the system and a number; a plain user may not read a file whose mode forbids it, as root may."""
+        a limit of the system and a number; the descriptors `closed` are closed; a plain user may not read a file whose
+        mode forbids it, as root may."""
         variables = {"PATH": os.defpath}
         if refuse is not None:
             variables["LD_PRELOAD"] = self.counter
@@ -53,11 +55,13 @@ class Program:
         def before():
             for limit, number in limits:
                 resource.setrlimit(limit, (number, number))
+            for descriptor in closed:
+                os.close(descriptor)
             for right in READS_ALL if plain_user and os.geteuid() == 0 else ():
                 ctypes.CDLL(None).prctl(PR_CAPBSET_DROP, right, 0, 0, 0)
 
         run = subprocess.run([self.binary, *words], cwd=self.where, env=variables, stdin=stdin, stdout=out,
-                             stderr=subprocess.PIPE, preexec_fn=before if limits or plain_user else None)
+                             stderr=subprocess.PIPE, preexec_fn=before if limits or closed or plain_user else None)
         return Ended(run.returncode, run.stdout or b"", run.stderr)
 
     def counts(self, words, refuse=None):

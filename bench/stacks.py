@@ -20,6 +20,7 @@ BOUNDS = {
     **{(mode, "largest"): 2048 for mode in ("edit", "trivial", "threshold")},
     ("dtree", "deepest"): 512,
 }
+AGAIN = 10
 # How many runs with another request refused are tried within the stack that a whole run needs.
 REFUSED = 16
 
@@ -55,7 +56,8 @@ def ends(program, words, refuse, stack):
 
 
 def least_stack(program, words, refuse=None, low=8):
-    """The least stack in KB, at or above `low`, within which a run ends by no signal."""
+    """The least stack in KB, at or above `low`, within which runs end by no signal. The system begins the stack at a
+    place that is drawn, within some KB, so that it is tried again."""
     high = low
     while high < MOST_STACK and not ends(program, words, refuse, high):
         low, high = high + 1, high * 2
@@ -65,6 +67,8 @@ def least_stack(program, words, refuse=None, low=8):
             high = middle
         else:
             low = middle + 1
+    while high < MOST_STACK and not all(ends(program, words, refuse, high) for _ in range(AGAIN)):
+        high += 1
     return high
 
 
@@ -150,7 +154,8 @@ def tell_window(program, words):
     answers = least_space(program, words, right)
     begins = least_space(program, [], program.run([]))
     wrong, count = [], 0
-    for space in range(max(begins, answers - BELOW), answers + ABOVE + 1, STEP):
+    first = max(begins, answers - BELOW) // STEP * STEP
+    for space in range(first, answers + ABOVE + 1, STEP):
         ended = in_space(program, words, space)
         count += 1
         if not is_right_in(ended, right):
