@@ -3,7 +3,8 @@
 
     python3 bench/checks.py              over the program that the gate built
     python3 bench/checks.py --bin PATH   over another one
-    python3 bench/checks.py --rounds N   of so many rounds of random inputs, 40 if none is told
+    python3 bench/checks.py --rounds N   of so many rounds of random inputs, 60 if none is told
+    python3 bench/checks.py --wide N     of so many rounds of graphs on 60 to 69 vertices, 3 if none is told
     python3 bench/checks.py --only WORD  over the modes whose name holds a word
 
 For each file in `examples/` and in each round for random files, each report that the program writes is judged, and then
@@ -139,8 +140,8 @@ def digraph6(graph):
 
 
 def random_edit(r, graph):
-    """An edit of a graph on some ten names, mostly with no reason against it."""
-    names, free = sorted(graph), [v for v in range(12) if v not in graph]
+    """An edit of a graph, mostly with no reason against it."""
+    names, free = sorted(graph), [v for v in range(max([9, *graph]) + 3) if v not in graph]
     kind = r.randrange(8)
     if names and kind == 0:
         return "-v", [r.choice(names)]
@@ -156,10 +157,10 @@ def edit_against_reason(r, graph):
     word, names = random_edit(r, graph)
     kind = r.randrange(4)
     if kind == 0:
-        name = r.randrange(12)
+        name = r.choice(names)
         return r.choice(["+e", "-e"]), [name, name]
     if kind == 1:
-        return word, r.sample([*names[:-1], r.randrange(12, 20)], len(names))
+        return word, r.sample([*names[:-1], max(graph, default=0) + r.randrange(1, 9)], len(names))
     if kind == 2 and graph:
         return "+v", [r.choice(sorted(graph)), *names]
     return {"+e": "-e", "-e": "+e"}.get(word, word), names
@@ -387,20 +388,20 @@ def written(checks, r, graphs):
     return "g6", checks.write("graph", b"".join(lines))
 
 
-def try_round(checks, modes, r):
-    """Random inputs for each mode, the graphs of four modes the same."""
-    graphs = [r.choice(KINDS_OF_GRAPHS)(r, r.randrange(10)) for _ in range(r.randrange(1, 4))]
+def try_round(checks, modes, r, sizes, most_of_digraphs):
+    """Random inputs for each mode, on so many vertices, the graphs of four modes the same."""
+    graphs = [r.choice(KINDS_OF_GRAPHS)(r, r.choice(sizes)) for _ in range(r.randrange(1, 4))]
     form, path = written(checks, r, graphs)
     for mode in GRAPH_MODES:
         if mode in modes:
             checks.try_all(mode, form, path)
     if "dtree" in modes:
-        lines = [digraph6(random_digraph(r, r.randrange(8))) for _ in range(r.randrange(1, 4))]
+        lines = [digraph6(random_digraph(r, r.randrange(most_of_digraphs))) for _ in range(r.randrange(1, 4))]
         checks.try_all("dtree", "d6", checks.write("digraphs", b"".join(lines)))
     for mode in verify.SESSIONS:
         if mode in modes:
             kind = OF_CLASS[mode] if r.random() < .85 else any_graph
-            form, path = written(checks, r, [kind(r, r.randrange(1, 10))])
+            form, path = written(checks, r, [kind(r, max(1, r.choice(sizes)))])
             with open(path, "rb") as file:
                 first, = read_graphs(mode, form, file.read())
             checks.try_all(mode, form, path, checks.write("script", random_script(r, mode, first)))
@@ -409,7 +410,8 @@ def try_round(checks, modes, r):
 def main():
     parser = argparse.ArgumentParser(description=__doc__, formatter_class=argparse.RawDescriptionHelpFormatter)
     parser.add_argument("--bin", default=os.path.join(TOP, "crates/md_cli/out/md_cli"))
-    parser.add_argument("--rounds", type=int, default=40)
+    parser.add_argument("--rounds", type=int, default=60)
+    parser.add_argument("--wide", type=int, default=3)
     parser.add_argument("--seed", type=int, default=1)
     parser.add_argument("--only", default="")
     args = parser.parse_args()
@@ -419,7 +421,9 @@ def main():
         checks = Checks(os.path.abspath(args.bin), folder, r)
         try_examples(checks, modes)
         for _ in range(args.rounds):
-            try_round(checks, modes, r)
+            try_round(checks, modes, r, range(10), 8)
+        for _ in range(args.wide):
+            try_round(checks, modes, r, range(60, 70), 70)
     checks.tell_ways(modes)
     print("%d checks, %d wrong" % (checks.tried, checks.wrong))
     return 1 if checks.wrong else 0
