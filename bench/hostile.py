@@ -381,6 +381,8 @@ def try_all(program, chosen):
             count += 1
             if told:
                 differences.append(told)
+            if count % 20000 == 0:
+                print("%d runs, %d differences until now" % (count, len(differences)), flush=True)
     print("%d runs of %d lists of words" % (count, len(cases)))
     return differences
 

@@ -4,9 +4,13 @@ import ctypes
 import os
 import re
 import resource
+import signal
 import subprocess
 
 BENCH = os.path.dirname(os.path.abspath(__file__))
+
+# The seconds after which a run is ended by a signal.
+LONGEST = 600
 
 # How often a run asks for memory, writes to a descriptor, opens a file and reads.
 Counts = collections.namedtuple("Counts", "requests writes opens reads")
@@ -60,8 +64,12 @@ class Program:
             for right in READS_ALL if plain_user and os.geteuid() == 0 else ():
                 ctypes.CDLL(None).prctl(PR_CAPBSET_DROP, right, 0, 0, 0)
 
-        run = subprocess.run([self.binary, *words], cwd=self.where, env=variables, stdin=stdin, stdout=out,
-                             stderr=subprocess.PIPE, preexec_fn=before if limits or closed or plain_user else None)
+        try:
+            run = subprocess.run([self.binary, *words], cwd=self.where, env=variables, stdin=stdin, stdout=out,
+                                 stderr=subprocess.PIPE, timeout=LONGEST,
+                                 preexec_fn=before if limits or closed or plain_user else None)
+        except subprocess.TimeoutExpired:
+            return Ended(-signal.SIGKILL, b"", b"no end")
         return Ended(run.returncode, run.stdout or b"", run.stderr)
 
     def counts(self, words, refuse=None):
