@@ -288,7 +288,7 @@ def kinds_of(mode):
 class Checks:
     def __init__(self, binary, folder, r):
         self.binary, self.folder, self.r = binary, folder, r
-        self.tried, self.wrong, self.reports = 0, 0, 0
+        self.tried, self.wrong, self.reports, self.right = 0, 0, 0, 0
         # The ways in which a line of a kind was altered, by mode and kind.
         self.ways = {(mode, kind): set() for mode in MODES for kind in kinds_of(mode)}
         # One file for all reports: to make a new one each time takes longer than the check.
@@ -312,6 +312,7 @@ class Checks:
         self.report.truncate(size)
         got = self.run(["check", *words, self.report.name])
         self.tried += 1
+        self.right += wrong is None
         if got != expected:
             self.wrong += 1
             self.tell("check %s, %s: expected %r, got %r" % (words[0], what, expected, got), words, report)
@@ -368,7 +369,7 @@ class Checks:
             print("%s: %d of %d kinds of lines, each altered in at least %d ways%s"
                   % (mode, len(met), len(ways), min(met, default=0),
                      "".join(", no line %r" % kind for kind, count in ways.items() if not count)))
-        print("%d reports" % self.reports)
+        print("%d reports; %d of the texts that were checked are valid reports" % (self.reports, self.right))
 
 
 def try_examples(checks, modes):
