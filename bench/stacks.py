@@ -76,7 +76,8 @@ def least_with_refused(program, words, least):
     """The least stack in KB within which runs end by no signal in each of which another request is refused."""
     requests = program.counts(words).requests
     for n in sorted({1 + (requests - 1) * i // (REFUSED - 1) for i in range(REFUSED)} if requests else ()):
-        least = least_stack(program, words, {"REQUEST": n}, least)
+        if not ends(program, words, {"REQUEST": n}, least):
+            least = least_stack(program, words, {"REQUEST": n}, least)
     return least
 
 
