@@ -106,6 +106,16 @@ OF_CLASS = {"edit": any_graph, "cograph": cograph, "quiet": cograph, "trivial": 
 KINDS_OF_GRAPHS = (any_graph, any_graph, sparse_graph, sparse_graph, permutation_graph, cograph, threshold)
 
 
+# The edges of each bar on the four vertices a, b, c, d.
+EDGES_OF_BARS = {"p4": ["ab", "bc", "cd"], "c4": ["ab", "bc", "cd", "da"], "2k2": ["ab", "cd"]}
+
+
+def barred(r, kind):
+    """A bar of this kind and a vertex besides."""
+    names = dict(zip("abcd", r.sample(range(5), 4)))
+    return undirected(range(5), [(names[u], names[v]) for u, v in EDGES_OF_BARS[kind]])
+
+
 def random_digraph(r, n):
     """A directed graph of any arcs, of one order, or with another one in the place of a vertex."""
     share, kind = r.random(), r.randrange(3)
@@ -155,7 +165,7 @@ def random_edit(r, graph):
 def edit_against_reason(r, graph):
     """An edit with a reason against it, where the graph has what that takes."""
     word, names = random_edit(r, graph)
-    kind = r.randrange(4)
+    kind = r.randrange(5)
     if kind == 0:
         name = r.choice(names)
         return r.choice(["+e", "-e"]), [name, name]
@@ -163,7 +173,10 @@ def edit_against_reason(r, graph):
         return word, r.sample([*names[:-1], max(graph, default=0) + r.randrange(1, 9)], len(names))
     if kind == 2 and graph:
         return "+v", [r.choice(sorted(graph)), *names]
-    return {"+e": "-e", "-e": "+e"}.get(word, word), names
+    if len(graph) < 2:
+        return word, names
+    u, v = r.sample(sorted(graph), 2)
+    return "+e" if v in graph[u] else "-e", [u, v]
 
 
 def left_by(mode, graph, edit):
@@ -389,6 +402,14 @@ def written(checks, r, graphs):
     return "g6", checks.write("graph", b"".join(lines))
 
 
+def try_barred(checks, modes, r):
+    """Sessions whose first graph has a bar, of each kind."""
+    for mode in modes:
+        for kind in BARS.get(mode, ()):
+            path = checks.write("graph", graph6(barred(r, kind)))
+            checks.try_all(mode, "g6", path, checks.write("script", b"+e 0 1\nbegin\n-v 2\ncommit\nundo\n"))
+
+
 def try_round(checks, modes, r, sizes, most_of_digraphs):
     """Random inputs for each mode, on so many vertices, the graphs of four modes the same."""
     graphs = [r.choice(KINDS_OF_GRAPHS)(r, r.choice(sizes)) for _ in range(r.randrange(1, 4))]
@@ -421,6 +442,7 @@ def main():
     with tempfile.TemporaryDirectory() as folder:
         checks = Checks(os.path.abspath(args.bin), folder, r)
         try_examples(checks, modes)
+        try_barred(checks, modes, r)
         for _ in range(args.rounds):
             try_round(checks, modes, r, range(10), 8)
         for _ in range(args.wide):
