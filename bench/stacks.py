@@ -1,4 +1,5 @@
 """The call stack and the address space that runs over deep trees need, for hostile.py."""
+import collections
 import os
 import resource
 
@@ -154,13 +155,14 @@ def tell_window(program, words):
     right = program.run(words)
     answers = least_space(program, words, right)
     begins = least_space(program, [], program.run([]))
-    wrong, count = [], 0
+    wrong, count = collections.defaultdict(list), 0
     first = max(begins, answers - BELOW) // STEP * STEP
     for space in range(first, answers + ABOVE + 1, STEP):
         ended = in_space(program, words, space)
         count += 1
         if not is_right_in(ended, right):
-            wrong.append("%s: within %d KB of address space: %s" % (" ".join(words), space, ended))
-    print("%s: answers within %d KB; %d runs around it, %d wrong" % (" ".join(words), answers, count, len(wrong)),
-          flush=True)
-    return wrong
+            wrong[str(ended)].append(space)
+    print("%s: answers within %d KB; %d runs around it, %d wrong"
+          % (" ".join(words), answers, count, sum(map(len, wrong.values()))), flush=True)
+    return ["%s: within %d address spaces of %d to %d KB: %s" % (" ".join(words), len(found), found[0], found[-1], how)
+            for how, found in wrong.items()]
