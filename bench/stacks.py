@@ -25,9 +25,11 @@ AGAIN = 10
 # How many runs with another request refused are tried within the stack that a whole run needs.
 REFUSED = 16
 
-# The commands whose address space is gone through, with the checks of their reports; how far below and above the least
-# space in which one answers; and by what steps, in KB.
+# The commands of which is asked that in every address space they end by no signal, and the checks of their reports; those
+# that are gone through beside them at one depth, and told; how far below and above the least space in which one answers,
+# and by what steps, in KB.
 WINDOW_MODES = ("tree", "cograph", "quiet")
+TOLD_MODES = ("dtree", "edit", "trivial", "threshold")
 BELOW, ABOVE, STEP = 2048, 1024, 16
 
 
@@ -139,15 +141,23 @@ def is_right_in(ended, right):
 
 
 def tell_windows(program, only):
-    """Goes through the address spaces around the least in which a command answers; answers what is wrong."""
+    """Goes through the address spaces around the least in which a command answers; answers what is wrong where it is
+    asked for."""
     wrong = []
     for depth in DEPTHS:
-        reports = deep_reports(depth, WINDOW_MODES)
-        write_reports(program, reports)
-        for name, words in reports.items():
-            for form in (words, ["check", *words, name]):
-                if only in " ".join(form):
-                    wrong += tell_window(program, form)
+        wrong += tell_windows_of(program, only, depth, WINDOW_MODES)
+    tell_windows_of(program, only, "deepest", TOLD_MODES)
+    return wrong
+
+
+def tell_windows_of(program, only, depth, modes):
+    wrong = []
+    reports = deep_reports(depth, modes)
+    write_reports(program, reports)
+    for name, words in reports.items():
+        for form in (words, ["check", *words, name]):
+            if only in " ".join(form):
+                wrong += tell_window(program, form)
     return wrong
 
 
@@ -162,7 +172,9 @@ def tell_window(program, words):
         count += 1
         if not is_right_in(ended, right):
             wrong[str(ended)].append(space)
-    print("%s: answers within %d KB; %d runs around it, %d wrong"
-          % (" ".join(words), answers, count, sum(map(len, wrong.values()))), flush=True)
-    return ["%s: within %d address spaces of %d to %d KB: %s" % (" ".join(words), len(found), found[0], found[-1], how)
+    told = ["%s: within %d address spaces of %d to %d KB: %s" % (" ".join(words), len(found), found[0], found[-1], how)
             for how, found in wrong.items()]
+    print("%s: answers within %d KB; %d runs around it, %d wrong"
+          % (" ".join(words), answers, count, sum(map(len, wrong.values()))))
+    print("".join("    %s\n" % line for line in told), end="", flush=True)
+    return told
