@@ -25,9 +25,9 @@ AGAIN = 10
 # How many runs with another request refused are tried within the stack that a whole run needs.
 REFUSED = 16
 
-# The commands of which is asked that in every address space they end by no signal, and the checks of their reports; those
-# that are gone through beside them at one depth, and told; how far below and above the least space in which one answers,
-# and by what steps, in KB.
+# The commands of which is asked that in every address space they end by no signal, with the checks of their reports;
+# those that are gone through at one depth beside them, and told; how far below and above the least space in which one
+# answers, and by what steps, in KB.
 WINDOW_MODES = ("tree", "cograph", "quiet")
 TOLD_MODES = ("dtree", "edit", "trivial", "threshold")
 BELOW, ABOVE, STEP = 2048, 1024, 16
