@@ -6,7 +6,7 @@ it gives another text, or None where it has nothing to do there. What it gives m
 import re
 
 from mdt.reports import BARS
-from mdt.trees import LETTERS, Node, ReportError, parse_tree
+from mdt.trees import LETTERS, ReportError, parse_tree
 from mdt.verify import force_each_other
 
 MODES = ("tree", "dtree", "compare", "shortest", "permute", *BARS)
