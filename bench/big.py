@@ -44,7 +44,7 @@ def write(program, name, text):
 
 
 def try_big(program):
-    requests, _ = program.counts(["big", "1000"])
+    requests = program.counts(["big", "1000"]).requests
     print("big 1000: %d requests" % requests)
     right = program.run(["big", "1000"])
     refused = program.run(["big", "1000"], {"REQUEST": 50000})
@@ -61,7 +61,7 @@ def requests_of(program, script, answer):
     edits = script.count("\n")
     if ended.status != 0 or len(lines) != edits + 3 or not all(line.startswith(answer) for line in lines[1:-2]):
         sys.exit("the edits aren't answered as they were meant to be: %s" % ended)
-    return edits, program.counts(["quiet", "g6", "complete.g6", "script"])[0]
+    return edits, program.counts(["quiet", "g6", "complete.g6", "script"]).requests
 
 
 def try_quiet(program):
