@@ -86,7 +86,7 @@ module _ (a b c : List ℕ) (n w u : ℕ) (s t r : NameSet) (is_a : names_below 
   words_of_either whole within k h i j =
       let same = bit_at_or (get_or b k 0) (get_or c k 0) i in
       let less = less_either (bit_at (get_or a k 0) i) (bit_at (get_or b k 0) i) (bit_at (get_or c k 0) i) (bit_at-lt _ _) (λ e.
-          (λ x. sym (bit_is_name b n w k i t is_b whole h j) x || sym (bit_is_name c n w k i r is_c whole h j) x)
-          ∙ sym (contains-union t r (64 * k + i))
-          ∙ within (64 * k + i) (bit_is_name a n w k i s is_a whole h j ∙ e)) in
+      (λ x. sym (bit_is_name b n w k i t is_b whole h j) x || sym (bit_is_name c n w k i r is_c whole h j) x)
+      ∙ sym (contains-union t r (64 * k + i))
+      ∙ within (64 * k + i) (bit_is_name a n w k i s is_a whole h j ∙ e)) in
       omega arith
