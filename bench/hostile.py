@@ -352,11 +352,14 @@ def tasks_of(program, cases, quick):
             yield from refusals(at, case, 8 if quick else 200, stack)
 
 
-def write_inputs(program):
-    """Writes the files and the reports into the folder; answers what is wrong about the reports."""
+def write_files(program):
     for name, content in FILES.items():
         with open(os.path.join(program.where, name), "wb") as file:
             file.write(content)
+
+
+def write_all_reports(program):
+    """Writes the reports into the folder; answers what is wrong about them."""
     wrong = []
     for name, words in ALL_REPORTS.items():
         ended = program.run(words)
@@ -369,7 +372,7 @@ def write_inputs(program):
 
 
 def try_all(program, chosen):
-    differences = write_inputs(program)
+    differences = write_all_reports(program)
     cases, groups = [], []
     for group in (SMALL + LONG, DEEP, DEEPEST, LARGEST):
         taken = [words for words in group if chosen.only in " ".join(words)]
@@ -388,9 +391,11 @@ def try_all(program, chosen):
 
 
 def try_words(program, chosen):
-    if chosen.stack or chosen.window:
-        wrong = write_inputs(program)
-        return wrong + (tell_stacks if chosen.stack else tell_windows)(program, chosen.only)
+    write_files(program)
+    if chosen.stack:
+        return tell_stacks(program, chosen.only)
+    if chosen.window:
+        return tell_windows(program, chosen.only)
     return try_all(program, chosen)
 
 

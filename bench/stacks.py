@@ -152,12 +152,12 @@ def tell_windows(program, only):
 
 def tell_windows_of(program, only, depth, modes):
     wrong = []
-    reports = deep_reports(depth, modes)
-    write_reports(program, reports)
-    for name, words in reports.items():
-        for form in (words, ["check", *words, name]):
-            if only in " ".join(form):
-                wrong += tell_window(program, form)
+    for name, words in deep_reports(depth, modes).items():
+        forms_here = [form for form in (words, ["check", *words, name]) if only in " ".join(form)]
+        if forms_here:
+            write_reports(program, {name: words})
+        for form in forms_here:
+            wrong += tell_window(program, form)
     return wrong
 
 
