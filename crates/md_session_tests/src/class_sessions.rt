@@ -200,7 +200,7 @@ fn outlined_edge<L: Ledger>(rt: &impl Abort, alloc: Global, blank: Blank) -> Res
 {
     let mut steps = Steps::<L>::new(blank);
     let graph = graph_of(rt, alloc, 4, &[(0, 1)])?;
-    let mut session = opened(rt, alloc, Class::Trivial, graph)?;
+    let mut session = session_of(rt, alloc, Class::Trivial, graph)?;
     let mut history = HistoryOf::<1>::new(alloc)?;
     history.reserve(alloc, 2)?;
     let item = Item::One(Edit::AddEdge { u: 1, v: 2 });
