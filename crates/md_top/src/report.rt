@@ -149,12 +149,11 @@ fn spell<const W: usize>(
         × (space.new.text.items ≡ fed_line line)) }
 {
     match mode {
-        GraphMode::Tree => return spell_tree(alloc, graph, space),
-        GraphMode::Compare => space.text = orientation_text(alloc, graph)?,
-        GraphMode::Shortest => space.text = orientation_text(alloc, graph)?,
-        GraphMode::Permute => space.text = model_text(alloc, graph)?,
+        GraphMode::Tree => spell_tree(alloc, graph, space),
+        GraphMode::Compare => spell_orientation(alloc, graph, space),
+        GraphMode::Shortest => spell_orientation(alloc, graph, space),
+        GraphMode::Permute => spell_model(alloc, graph, space),
     }
-    Ok(())
 }
 
 // Spells the line of the tree of a graph, with its line feed.
@@ -173,23 +172,34 @@ fn spell_tree<const W: usize>(
     Ok(())
 }
 
-// The text of the line of the least-edge orientation of a graph, or of a shortest forcing chain of
-// it, with its line feed.
-fn orientation_text<const W: usize>(alloc: Global, graph: &GraphOf<W>) -> Result<Vec<u8>, Memory>
-    ensures { IfOk result (λ text. (line : PlainLine) × IsShortestLine (adjacent graph.now) line
-        × (text.items ≡ fed_line line)) }
+// Spells the line of the least-edge orientation of a graph, or of a shortest forcing chain of it,
+// with its line feed.
+fn spell_orientation<const W: usize>(
+    alloc: Global,
+    graph: &GraphOf<W>,
+    space: &mut LineSpace,
+) -> Result<(), Memory>
+    ensures { IfOk result (λ _. (line : PlainLine) × IsShortestLine (adjacent graph.now) line
+        × (space.new.text.items ≡ fed_line line)) }
 {
     let line = orientation_line(alloc, graph)?;
-    fed_text(alloc, &line)
+    space.text = fed_text(alloc, &line)?;
+    Ok(())
 }
 
-// The same of two orders that realise it, or of a forcing chain of it or of its complement.
-fn model_text<const W: usize>(alloc: Global, graph: &GraphOf<W>) -> Result<Vec<u8>, Memory>
-    ensures { IfOk result (λ text. (line : PlainLine) × IsModelLine graph.now line
-        × (text.items ≡ fed_line line)) }
+// Spells the line of two orders that realise a graph, or of a forcing chain of it or of its
+// complement, with its line feed.
+fn spell_model<const W: usize>(
+    alloc: Global,
+    graph: &GraphOf<W>,
+    space: &mut LineSpace,
+) -> Result<(), Memory>
+    ensures { IfOk result (λ _. (line : PlainLine) × IsModelLine graph.now line
+        × (space.new.text.items ≡ fed_line line)) }
 {
     let line = model_line(alloc, graph)?;
-    fed_text(alloc, &line)
+    space.text = fed_text(alloc, &line)?;
+    Ok(())
 }
 
 // The line of the least-edge orientation of a graph, or of a shortest forcing chain of it.
