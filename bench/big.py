@@ -9,9 +9,10 @@ each vertex that comes, for its list of neighbours. One that built the tree anew
 inner node of each tree at least, 499,500 while the vertices come, and would end with the status Memory.
 
 `quiet` is run over a script whose edits of edges are all applied, and over one with as many edits that are all refused
-before anything is looked at, since each names one vertex twice. Both leave the same graph, reading either takes the
-same memory, and both reports have one short line an edit: so where both runs make as many requests, applying edits
-makes none. It is tried with scripts twice as long too, which take more for their reading and for the lines alone.
+before anything is looked at, since each names one vertex twice. Both leave the same graph, and reading either takes the
+same memory. The line of an edit that is applied takes none, and that of a refused one a request: so where a run makes
+fewer requests than it has edits, applying them makes none, and one over refused edits makes as many more as it has
+lines. It is tried with scripts twice as long too.
 
 The last line is `no difference`, or the number of the differences, and then the exit status is 1.
 """
@@ -44,7 +45,7 @@ def write(program, name, text):
 
 
 def try_big(program):
-    requests, _ = program.counts(["big", "1000"])
+    requests = program.counts(["big", "1000"]).requests
     print("big 1000: %d requests" % requests)
     right = program.run(["big", "1000"])
     refused = program.run(["big", "1000"], {"REQUEST": 50000})
@@ -61,7 +62,7 @@ def requests_of(program, script, answer):
     edits = script.count("\n")
     if ended.status != 0 or len(lines) != edits + 3 or not all(line.startswith(answer) for line in lines[1:-2]):
         sys.exit("the edits aren't answered as they were meant to be: %s" % ended)
-    return edits, program.counts(["quiet", "g6", "complete.g6", "script"])[0]
+    return edits, program.counts(["quiet", "g6", "complete.g6", "script"]).requests
 
 
 def try_quiet(program):
@@ -71,8 +72,9 @@ def try_quiet(program):
         edits, applied = requests_of(program, turned_edges(times), b"ok")
         _, refused = requests_of(program, refused_edges(times), b"no same")
         print("quiet: %d requests where %d edits are applied, %d where they are refused" % (applied, edits, refused))
-        if applied != refused:
-            wrong.append("quiet: applying %d edits takes %d requests" % (edits, applied - refused))
+        if applied >= edits or refused > applied + edits:
+            wrong.append("quiet: %d edits take %d requests where they are applied, %d where they are refused"
+                         % (edits, applied, refused))
     return wrong
 
 

@@ -11,7 +11,7 @@ use Rattle.md_report.specs.WellFormedLines.{IsVertexName, IsEditNumber, IsBarOrd
 use Rattle.md_report.proofs.Named.{one_edit}
 use Rattle.md_report.proofs.OneLine.{one_line_proof, one_names, bar_cut}
 use Rattle.md_bar.specs.ClassLines.{IsShared}
-use Rattle.md_bar.specs.Reading.{IsOrdered}
+use Rattle.md_bar.specs.Reading.{IsOrderedBar}
 
 -- the bar of the names that a text spells behind the word of a kind
 module _ (text behind : List ℕ) (kind : BarKind) (at : text ≡ bar_word kind ++ behind) where
@@ -22,11 +22,11 @@ module _ (text behind : List ℕ) (kind : BarKind) (at : text ≡ bar_word kind 
   no_names none bar is e = none (bar.a ∷ bar.b ∷ bar.c ∷ bar.d ∷ []) is.names (kind_cut bar e).1
 
   pub bar_spelled : (items names : List ℕ) (o : Option Bar) → names ≡ items → All IsVertexName items → behind ≡ names_text items →
-      MatchOption o ((a b c d : ℕ) → IsOrdered kind a b c d → names ≢ a ∷ b ∷ c ∷ d ∷ []) (λ bar. (bar.kind ≡ kind) × IsOrdered kind bar.a bar.b bar.c bar.d × (names ≡ bar.a ∷ bar.b ∷ bar.c ∷ bar.d ∷ [])) →
+      MatchOption o ((a b c d : ℕ) → IsOrderedBar kind a b c d → names ≢ a ∷ b ∷ c ∷ d ∷ []) (λ bar. (bar.kind ≡ kind) × IsOrderedBar kind bar.a bar.b bar.c bar.d × (names ≡ bar.a ∷ bar.b ∷ bar.c ∷ bar.d ∷ [])) →
       MatchOption o ((bar : Bar) → IsNamedBar bar → text ≢ bar_text bar) (λ bar. IsNamedBar bar × (text ≡ bar_text bar))
   bar_spelled items names None same all spelled none = λ bar is e.
       let cut = kind_cut bar e in
-      none bar.a bar.b bar.c bar.d (subst (λ k. IsOrdered k bar.a bar.b bar.c bar.d) (sym cut.0) (is.different, is.order))
+      none bar.a bar.b bar.c bar.d (subst (λ k. IsOrderedBar k bar.a bar.b bar.c bar.d) (sym cut.0) (is.different, is.order))
       (same ∙ one_names items (bar.a ∷ bar.b ∷ bar.c ∷ bar.d ∷ []) (sym spelled ∙ cut.1))
   bar_spelled items names (Some bar) same all spelled found =
       let four : items ≡ bar.a ∷ bar.b ∷ bar.c ∷ bar.d ∷ [] = sym same ∙ found.2 in (

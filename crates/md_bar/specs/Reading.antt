@@ -11,8 +11,8 @@ use Rattle.md_bar.specs.declared.ClassLine.{ClassLine}
 use Rattle.md_bar.specs.ClassLines.{class_line_text, IsShared, IsWellFormedClassLine}
 
 -- the four differ, and stand in the order of a kind of bars
-abbrev pub IsOrdered : BarKind → ℕ → ℕ → ℕ → ℕ → Type 0
-IsOrdered kind a b c d = AreDifferent a b c d × IsBarOrder kind a b c d
+abbrev pub IsOrderedBar : BarKind → ℕ → ℕ → ℕ → ℕ → Type 0
+IsOrderedBar kind a b c d = AreDifferent a b c d × IsBarOrder kind a b c d
 
 -- what reading says of the lines that stand in all sessions: the well-formed line with this text; or that none of them has it
 abbrev pub IsSharedReading : List ℕ → Result ClassLine LineFault → Type 0

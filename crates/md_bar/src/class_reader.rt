@@ -8,7 +8,7 @@ ghost use Rattle.md_bar_tree.specs.Bars.{AreDifferent};
 ghost use Rattle.md_report.specs.Lines.{plain_line, bar_word, bar_text, line_text, head_class, refused_bar, group_refused_bar};
 ghost use Rattle.md_report.specs.WellFormedLines.{IsEditNumber, IsBarOrder, IsNamedBar};
 ghost use Rattle.md_bar.specs.ClassLines.{IsShared, IsClassReading};
-ghost use Rattle.md_bar.specs.Reading.{IsOrdered, IsSharedReading};
+ghost use Rattle.md_bar.specs.Reading.{IsOrderedBar, IsSharedReading};
 
 use crate::{Bar, BarKind, Class, ClassLine};
 use md_bar_tree::{in_cycle_order, in_pair_order};
@@ -127,9 +127,9 @@ fn split_kind(text: &[u8]) -> Option<(BarKind, &[u8])>
 
 // The bar of a kind with these names, where they are four, differ, and stand in its order.
 fn bar_of_names(kind: BarKind, names: &[u32]) -> Option<Bar>
-    ensures { MatchOption result ((a b c d : ℕ) → IsOrdered kind a b c d
+    ensures { MatchOption result ((a b c d : ℕ) → IsOrderedBar kind a b c d
         → names.now ≢ a ∷ b ∷ c ∷ d ∷ [])
-        (λ bar. (bar.kind ≡ kind) × IsOrdered kind bar.a bar.b bar.c bar.d
+        (λ bar. (bar.kind ≡ kind) × IsOrderedBar kind bar.a bar.b bar.c bar.d
         × (names.now ≡ bar.a ∷ bar.b ∷ bar.c ∷ bar.d ∷ [])) }
 {
     if names.len() != 4 {
@@ -143,7 +143,7 @@ fn bar_of_names(kind: BarKind, names: &[u32]) -> Option<Bar>
 }
 
 fn is_ordered(kind: BarKind, a: u32, b: u32, c: u32, d: u32) -> bool
-    ensures { IsTrue result ↔ IsOrdered kind a b c d }
+    ensures { IsTrue result ↔ IsOrderedBar kind a b c d }
 {
     are_different(a, b, c, d) && is_bar_order(kind, a, b, c, d)
 }

@@ -7,3 +7,4 @@ pub mod BarLaw
 mod Children
 mod Tested
 mod Crossings
+mod InnerRows

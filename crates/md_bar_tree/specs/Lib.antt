@@ -5,3 +5,4 @@ pub mod Following
 pub mod Finding
 pub mod Edges
 pub mod Crossing
+pub mod InnerRows

@@ -1,15 +1,18 @@
 //! Bars of trivially perfect graphs and of threshold graphs: four vertices by which a graph is
-//! none, found in its tree, and tested on the graph.
+//! none, found in its tree, and tested on the graph; and whether a graph has one, told from the
+//! outline of its tree.
 #![tactic(auto)]
 
 mod bar_at;
 mod bar_search;
 mod bar_test;
+mod few_inner;
 pub mod laws;
 
 pub use bar_at::has_bar_at;
 pub use bar_search::bar_of;
 pub use bar_test::{in_cycle_order, in_pair_order, is_bar};
+pub use few_inner::has_few_inner;
 
 /// A class of graphs: trivially perfect graphs, which have no induced path or cycle on four
 /// vertices, or threshold graphs, which have besides no two edges without an edge between them.

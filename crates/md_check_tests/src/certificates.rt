@@ -21,7 +21,7 @@ fn graph_of<const W: usize>(
     Ok(GraphOf::from_edges(alloc, n, edges)?.expect(rt, "edges"))
 }
 
-fn arcs_of(alloc: Global, pairs: &[(u32, u32)]) -> Result<Vec<Arc>, Memory> {
+pub(super) fn arcs_of(alloc: Global, pairs: &[(u32, u32)]) -> Result<Vec<Arc>, Memory> {
     let mut list = Vec::new(alloc);
     for (tail, head) in pairs {
         list.push(Arc {
@@ -32,83 +32,117 @@ fn arcs_of(alloc: Global, pairs: &[(u32, u32)]) -> Result<Vec<Arc>, Memory> {
     Ok(list)
 }
 
+// Sees whether two orders realise a path.
+fn check_orders(
+    rt: &impl Abort,
+    alloc: Global,
+    path: &Graph,
+    first: &[u32],
+    second: &[u32],
+    want: bool,
+) -> Result<(), Memory> {
+    let first = Order::new(alloc, first)?;
+    let second = Order::new(alloc, second)?;
+    assert_eq!(rt; realise(alloc, path, &first, &second)?, want);
+    Ok(())
+}
+
+static ORDERS: [(&[u32], &[u32], bool); 7] = [
+    (&[0, 2, 1, 3], &[1, 0, 3, 2], true),
+    (&[1, 0, 3, 2], &[0, 2, 1, 3], true),
+    (&[0, 1, 2, 3], &[0, 1, 2, 3], false),
+    (&[0, 2, 1, 3], &[2, 3, 0, 1], false),
+    (&[0, 2, 1], &[1, 0, 3, 2], false),
+    (&[0, 2, 1, 3, 3], &[1, 0, 3, 2], false),
+    (&[0, 2, 1, 4], &[1, 0, 3, 2], false),
+];
+
 #[test]
 fn orders(rt: HostRuntime) -> Result<(), Fail> {
     let path: Graph = graph_of(&rt, rt.alloc(), 4, &PATH)?;
-    let cases: [(&[u32], &[u32], bool); 7] = [
-        (&[0, 2, 1, 3], &[1, 0, 3, 2], true),
-        (&[1, 0, 3, 2], &[0, 2, 1, 3], true),
-        (&[0, 1, 2, 3], &[0, 1, 2, 3], false),
-        (&[0, 2, 1, 3], &[2, 3, 0, 1], false),
-        (&[0, 2, 1], &[1, 0, 3, 2], false),
-        (&[0, 2, 1, 3, 3], &[1, 0, 3, 2], false),
-        (&[0, 2, 1, 4], &[1, 0, 3, 2], false),
-    ];
-    for (first, second, want) in &cases {
-        let first = Order::new(rt.alloc(), *first)?;
-        let second = Order::new(rt.alloc(), *second)?;
-        assert_eq!(rt; realise(rt.alloc(), &path, &first, &second)?, *want);
+    for (first, second, want) in &ORDERS {
+        check_orders(&rt, rt.alloc(), &path, *first, *second, *want)?;
     }
     Ok(())
 }
 
+// Sees whether the arcs of these pairs are a forcing chain.
+fn check_chain(
+    rt: &impl Abort,
+    alloc: Global,
+    cycle: &Graph,
+    side: Side,
+    pairs: &[(u32, u32)],
+    want: bool,
+) -> Result<(), Memory> {
+    let chain = Chain::from_list(arcs_of(alloc, pairs)?);
+    assert_eq!(rt; is_forcing_chain(alloc, cycle, side, &chain)?, want);
+    Ok(())
+}
+
+static CHAINS: [(&[(u32, u32)], Side, bool); 6] = [
+    (
+        &[(0, 1), (0, 4), (3, 4), (3, 2), (1, 2), (1, 0)],
+        Side::Edges,
+        true,
+    ),
+    (
+        &[(0, 1), (0, 4), (3, 4), (3, 2), (1, 2), (1, 0)],
+        Side::NonEdges,
+        false,
+    ),
+    (
+        &[(0, 4), (3, 4), (3, 2), (1, 2), (1, 0)],
+        Side::Edges,
+        false,
+    ),
+    (
+        &[(0, 1), (0, 4), (3, 4), (3, 2), (1, 2)],
+        Side::Edges,
+        false,
+    ),
+    (
+        &[(1, 2), (1, 0), (4, 0), (4, 3), (2, 3), (2, 1)],
+        Side::Edges,
+        false,
+    ),
+    (&[], Side::Edges, false),
+];
+
 #[test]
 fn chains(rt: HostRuntime) -> Result<(), Fail> {
     let cycle: Graph = graph_of(&rt, rt.alloc(), 5, &CYCLE)?;
-    let cases: [(&[(u32, u32)], Side, bool); 6] = [
-        (
-            &[(0, 1), (0, 4), (3, 4), (3, 2), (1, 2), (1, 0)],
-            Side::Edges,
-            true,
-        ),
-        (
-            &[(0, 1), (0, 4), (3, 4), (3, 2), (1, 2), (1, 0)],
-            Side::NonEdges,
-            false,
-        ),
-        (
-            &[(0, 4), (3, 4), (3, 2), (1, 2), (1, 0)],
-            Side::Edges,
-            false,
-        ),
-        (
-            &[(0, 1), (0, 4), (3, 4), (3, 2), (1, 2)],
-            Side::Edges,
-            false,
-        ),
-        (
-            &[(1, 2), (1, 0), (4, 0), (4, 3), (2, 3), (2, 1)],
-            Side::Edges,
-            false,
-        ),
-        (&[], Side::Edges, false),
-    ];
-    for (pairs, side, want) in &cases {
-        let chain = Chain::from_list(arcs_of(rt.alloc(), *pairs)?);
-        assert_eq!(rt; is_forcing_chain(rt.alloc(), &cycle, *side, &chain)?, *want);
+    for (pairs, side, want) in &CHAINS {
+        check_chain(&rt, rt.alloc(), &cycle, *side, *pairs, *want)?;
     }
+    Ok(())
+}
+
+// Sees whether the arcs of these pairs are the least-edge orientation of a graph.
+fn check_arcs(
+    rt: &impl Abort,
+    alloc: Global,
+    graph: &Graph,
+    pairs: &[(u32, u32)],
+    want: bool,
+) -> Result<(), Memory> {
+    let arcs = Arcs::from_list(arcs_of(alloc, pairs)?);
+    assert_eq!(rt; is_least_edge_orientation(alloc, graph, &arcs)?, want);
     Ok(())
 }
 
 #[test]
 fn orientations(rt: HostRuntime) -> Result<(), Fail> {
-    let path: Graph = graph_of(&rt, rt.alloc(), 4, &PATH)?;
-    let cycle: Graph = graph_of(&rt, rt.alloc(), 5, &CYCLE)?;
-    let cases: [(&Graph, &[(u32, u32)], bool); 6] = [
-        (&path, &[(0, 1), (2, 1), (2, 3)], true),
-        (&path, &[(1, 0), (1, 2), (3, 2)], false),
-        (&path, &[(0, 1), (2, 1)], false),
-        (&path, &[(2, 1), (0, 1), (2, 3)], false),
-        (&cycle, &[(0, 1), (0, 4), (2, 1), (2, 3), (4, 3)], false),
-        (&cycle, &[], false),
-    ];
-    for (graph, pairs, want) in &cases {
-        let arcs = Arcs::from_list(arcs_of(rt.alloc(), *pairs)?);
-        assert_eq!(rt;
-            is_least_edge_orientation(rt.alloc(), *graph, &arcs)?,
-            *want
-        );
-    }
+    let alloc = rt.alloc();
+    let path: Graph = graph_of(&rt, alloc, 4, &PATH)?;
+    check_arcs(&rt, alloc, &path, &[(0, 1), (2, 1), (2, 3)], true)?;
+    check_arcs(&rt, alloc, &path, &[(1, 0), (1, 2), (3, 2)], false)?;
+    check_arcs(&rt, alloc, &path, &[(0, 1), (2, 1)], false)?;
+    check_arcs(&rt, alloc, &path, &[(2, 1), (0, 1), (2, 3)], false)?;
+    let cycle: Graph = graph_of(&rt, alloc, 5, &CYCLE)?;
+    let arcs = [(0, 1), (0, 4), (2, 1), (2, 3), (4, 3)];
+    check_arcs(&rt, alloc, &cycle, &arcs, false)?;
+    check_arcs(&rt, alloc, &cycle, &[], false)?;
     Ok(())
 }
 

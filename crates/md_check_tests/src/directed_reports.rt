@@ -3,6 +3,8 @@ use md_checker::CheckAnswer;
 use md_dcheck::check_directed;
 use md_graph6::{G6Fault, G6Kind};
 use md_input::{Fault, InputStop};
+use std::alloc::Global;
+use std::process::Abort;
 use std::test::Fail;
 
 static REPORTS: [(&[u8], &[u8], CheckAnswer); 12] = [
@@ -52,33 +54,40 @@ static REPORTS: [(&[u8], &[u8], CheckAnswer); 12] = [
     ),
 ];
 
+// The answer of a report over a file, or why there is none.
+fn judge(alloc: Global, file: &[u8], report: &[u8]) -> Result<CheckAnswer, InputStop> {
+    check_directed(alloc, file, report)
+}
+
+// The answer of a report over a file.
+fn answer_of(rt: &impl Abort, alloc: Global, file: &[u8], report: &[u8]) -> CheckAnswer {
+    let Ok(answer) = judge(alloc, file, report) else {
+        panic!(rt; "stopped");
+    };
+    answer
+}
+
 #[test]
 fn reports_of_trees(rt: HostRuntime) {
-    for (file, report, expected) in REPORTS {
-        let Ok(answer) = check_directed(rt.alloc(), file, report) else {
-            panic!(rt; "stopped");
-        };
-        assert_eq!(rt; answer, expected);
+    for (file, report, expected) in &REPORTS {
+        assert_eq!(rt; answer_of(&rt, rt.alloc(), *file, *report), *expected);
     }
+}
+
+// Sees that a file has a fault of this kind in its first line.
+fn check_fault(rt: &impl Abort, alloc: Global, file: &[u8], kind: G6Kind) {
+    let report = b"mdt dtree\nend\n";
+    let Err(InputStop::BadInput(Fault::Graph6(fault))) = judge(alloc, file, report) else {
+        panic!(rt; "no fault");
+    };
+    assert_eq!(rt; fault, G6Fault { kind, line: 1 });
 }
 
 #[test]
 fn faulty_files(rt: HostRuntime) {
-    let cases: [(&[u8], G6Kind); 3] = [
-        (b"&@_\n", G6Kind::Loop),
-        (b"DQc\n", G6Kind::OtherFormat),
-        (b"&\n", G6Kind::Truncated),
-    ];
-    for (file, kind) in cases {
-        let Err(InputStop::BadInput(Fault::Graph6(fault))) = check_directed(
-            rt.alloc(),
-            file,
-            b"mdt dtree\nend\n",
-        ) else {
-            panic!(rt; "no fault");
-        };
-        assert_eq!(rt; fault, G6Fault { kind, line: 1 });
-    }
+    check_fault(&rt, rt.alloc(), b"&@_\n", G6Kind::Loop);
+    check_fault(&rt, rt.alloc(), b"DQc\n", G6Kind::OtherFormat);
+    check_fault(&rt, rt.alloc(), b"&\n", G6Kind::Truncated);
 }
 
 // A path of eleven vertices.
@@ -122,23 +131,31 @@ static TEXTS: [(&[u8], &[u8], bool); 14] = [
     ),
 ];
 
+// Sees whether the report of a tree with this text is accepted.
+fn check_text(
+    rt: &impl Abort,
+    alloc: Global,
+    file: &[u8],
+    text: &[u8],
+    want: bool,
+) -> Result<(), Fail> {
+    let mut report = Vec::new(alloc);
+    for piece in [b"mdt dtree\nt ", text, b"\nend\n"] {
+        report.extend_from_slice(piece)?;
+    }
+    let wanted = if want {
+        CheckAnswer::Accepted
+    } else {
+        CheckAnswer::Rejected(2)
+    };
+    assert_eq!(rt; answer_of(rt, alloc, file, &report), wanted);
+    Ok(())
+}
+
 #[test]
 fn texts_of_trees(rt: HostRuntime) -> Result<(), Fail> {
-    let alloc = rt.alloc();
-    for (file, text, want) in TEXTS {
-        let mut report = Vec::new(alloc);
-        for piece in [b"mdt dtree\nt ", text, b"\nend\n"] {
-            report.extend_from_slice(piece)?;
-        }
-        let Ok(answer) = check_directed(alloc, file, &report) else {
-            panic!(rt; "stopped");
-        };
-        let wanted = if want {
-            CheckAnswer::Accepted
-        } else {
-            CheckAnswer::Rejected(2)
-        };
-        assert_eq!(rt; answer, wanted);
+    for (file, text, want) in &TEXTS {
+        check_text(&rt, rt.alloc(), *file, *text, *want)?;
     }
     Ok(())
 }

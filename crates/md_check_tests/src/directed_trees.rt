@@ -97,8 +97,8 @@ static ROWS: [(&[u8], &[u8], &[u8]); 18] = [
 
 #[test]
 fn trees(rt: HostRuntime) -> Result<(), Fail> {
-    for (file, right, altered) in ROWS {
-        check(&rt, rt.alloc(), file, right, altered)?;
+    for (file, right, altered) in &ROWS {
+        check(&rt, rt.alloc(), *file, *right, *altered)?;
     }
     Ok(())
 }
@@ -168,7 +168,7 @@ fn prime_text(alloc: Global, bits: u32) -> Result<Vec<u8>, Fail> {
 }
 
 // The trees on three names without a prime node.
-const TEXTS: [&[u8]; 19] = [
+static TEXTS: [&[u8]; 19] = [
     b"P(0,1,2) S(0,1,2) ",
     b"O(0,1,2) O(0,2,1) ",
     b"O(1,0,2) O(1,2,0) ",
@@ -193,8 +193,8 @@ const TEXTS: [&[u8]; 19] = [
 // The number of all trees on three names that the directed graph has.
 fn fits_on_three(rt: &impl Abort, alloc: Global, graph: &DigraphOf<1>) -> Result<u32, Fail> {
     let mut count: u32 = 0;
-    for texts in TEXTS {
-        count = count.saturating_add(fits_among(rt, alloc, graph, texts)?);
+    for texts in &TEXTS {
+        count = count.saturating_add(fits_among(rt, alloc, graph, *texts)?);
     }
     for bits in 1..64 {
         let text = prime_text(alloc, bits)?;
@@ -203,23 +203,36 @@ fn fits_on_three(rt: &impl Abort, alloc: Global, graph: &DigraphOf<1>) -> Result
     Ok(count)
 }
 
+// Sees that the directed graph of these bits on three names has one of all trees.
+fn check_three(rt: &impl Abort, alloc: Global, bits: u32) -> Result<(), Fail> {
+    let graph = of_bits(rt, alloc, 3, bits)?;
+    assert_eq!(rt; fits_on_three(rt, alloc, &graph)?, 1);
+    Ok(())
+}
+
+// Sees that the directed graph of these bits on so many names has one of the trees.
+fn check_among(
+    rt: &impl Abort,
+    alloc: Global,
+    count: u32,
+    bits: u32,
+    texts: &[u8],
+) -> Result<(), Memory> {
+    let graph = of_bits(rt, alloc, count, bits)?;
+    assert_eq!(rt; fits_among(rt, alloc, &graph, texts)?, 1);
+    Ok(())
+}
+
 // Each directed graph on three names or fewer has one of all trees on these names.
 #[test]
 fn one_tree_each(rt: HostRuntime) -> Result<(), Fail> {
-    let alloc = rt.alloc();
     for bits in 0..64 {
-        let graph = of_bits(&rt, alloc, 3, bits)?;
-        assert_eq!(rt; fits_on_three(&rt, alloc, &graph)?, 1);
+        check_three(&rt, rt.alloc(), bits)?;
     }
     for bits in 0..4 {
-        let graph = of_bits(&rt, alloc, 2, bits)?;
-        assert_eq!(rt;
-            fits_among(&rt, alloc, &graph, b"P(0,1) S(0,1) O(0,1) O(1,0)")?,
-            1
-        );
+        check_among(&rt, rt.alloc(), 2, bits, b"P(0,1) S(0,1) O(0,1) O(1,0)")?;
     }
-    let graph = of_bits(&rt, alloc, 1, 0)?;
-    assert_eq!(rt; fits_among(&rt, alloc, &graph, b"0 1 empty")?, 1);
+    check_among(&rt, rt.alloc(), 1, 0, b"0 1 empty")?;
     Ok(())
 }
 

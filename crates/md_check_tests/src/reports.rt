@@ -3,7 +3,7 @@ ghost use Rattle.md_report.specs.Lines.{plain_line};
 ghost use Rattle.md_report.specs.WellFormedLines.{IsWellFormedLine};
 
 use md_checker::{CheckAnswer, Checker, check_graphs, check_session};
-use md_input::Format;
+use md_input::{Format, InputStop};
 use md_report::{GraphMode, Line, Mode, SessionMode};
 use md_tree::read_tree;
 use std::alloc::Global;
@@ -153,19 +153,45 @@ fn small_and_large_graphs(rt: HostRuntime) -> Result<(), Fail> {
     Ok(())
 }
 
-// The answer of a report of a session on the one graph of a file of lines.
-fn session_answer(
+// The answer of a report of a session on the one graph of a file, or why there is none.
+fn judge(
+    alloc: Global,
+    mode: SessionMode,
+    graph: (Format, &[u8]),
+    script: &[u8],
+    report: &[u8],
+) -> Result<CheckAnswer, InputStop> {
+    let (format, file) = graph;
+    check_session(alloc, mode, format, file, script, report)
+}
+
+// The answer of a report of a session on the one graph of a file.
+pub(super) fn session_answer(
+    rt: &impl Abort,
+    alloc: Global,
+    mode: SessionMode,
+    graph: (Format, &[u8]),
+    script: &[u8],
+    report: &[u8],
+) -> CheckAnswer {
+    let Ok(answer) = judge(alloc, mode, graph, script, report) else {
+        panic!(rt; "stopped");
+    };
+    answer
+}
+
+// Sees that the answer of a report of a session on the one graph of a file of lines is this one.
+fn expect_session(
     rt: &impl Abort,
     alloc: Global,
     mode: SessionMode,
     files: (&[u8], &[u8]),
     report: &[u8],
-) -> CheckAnswer {
+    want: CheckAnswer,
+) {
     let (file, script) = files;
-    let Ok(answer) = check_session(alloc, mode, Format::G6, file, script, report) else {
-        panic!(rt; "stopped");
-    };
-    answer
+    let got = session_answer(rt, alloc, mode, (Format::G6, file), script, report);
+    assert_eq!(rt; got, want);
 }
 
 static OF_SESSIONS: [(SessionMode, (&[u8], &[u8]), &[u8], CheckAnswer); 13] = [
@@ -253,8 +279,7 @@ static OF_SESSIONS: [(SessionMode, (&[u8], &[u8]), &[u8], CheckAnswer); 13] = [
 #[test]
 fn reports_of_sessions(rt: HostRuntime) {
     for (mode, files, report, want) in &OF_SESSIONS {
-        let got = session_answer(&rt, rt.alloc(), *mode, *files, *report);
-        assert!(&rt; got == *want);
+        expect_session(&rt, rt.alloc(), *mode, *files, *report, *want);
     }
 }
 
@@ -359,8 +384,7 @@ static QUIET: [((&[u8], &[u8]), &[u8], CheckAnswer); 23] = [
 #[test]
 fn reports_in_mode_quiet(rt: HostRuntime) {
     for (files, report, want) in &QUIET {
-        let got = session_answer(&rt, rt.alloc(), SessionMode::Quiet, *files, *report);
-        assert!(&rt; got == *want);
+        expect_session(&rt, rt.alloc(), SessionMode::Quiet, *files, *report, *want);
     }
 }
 

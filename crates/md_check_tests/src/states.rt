@@ -1,6 +1,7 @@
 //! Trees of graphs that may be states of sessions, and of graphs that may not.
+use super::reports::session_answer;
 use md_bar::Class;
-use md_checker::{CheckAnswer, check_session};
+use md_checker::CheckAnswer;
 use md_input::Format;
 use md_report::SessionMode;
 use std::alloc::Global;
@@ -25,14 +26,11 @@ fn check_state(
     want: bool,
 ) -> Result<(), Fail> {
     let (mode, word) = session;
-    let (format, file) = graph;
     let mut report = Vec::new(alloc);
     for piece in [b"mdt ", word, b"\n", line, b"\nend\n"] {
         report.extend_from_slice(piece)?;
     }
-    let Ok(answer) = check_session(alloc, mode, format, file, b"", &report) else {
-        panic!(rt; "stopped");
-    };
+    let answer = session_answer(rt, alloc, mode, graph, b"", &report);
     let wanted = if want {
         CheckAnswer::Accepted
     } else {
@@ -72,8 +70,8 @@ static STATES: [((SessionMode, &[u8]), &[u8], &[u8], bool); 15] = [
 
 #[test]
 fn states(rt: HostRuntime) -> Result<(), Fail> {
-    for (session, file, line, want) in STATES {
-        check_state(&rt, rt.alloc(), session, (Format::G6, file), line, want)?;
+    for (session, file, line, want) in &STATES {
+        check_state(&rt, rt.alloc(), *session, (Format::G6, *file), *line, *want)?;
     }
     Ok(())
 }
@@ -181,17 +179,34 @@ static DEEP: [((SessionMode, &[u8]), u32, &[(u32, u32)], &[u8], bool); 7] = [
     ),
 ];
 
+// The file of a deep graph.
+fn deep_file(alloc: Global, depth: u32, inner: &[(u32, u32)]) -> Result<Vec<u8>, Fail> {
+    let (lines, count) = deep_edges(alloc, depth, inner)?;
+    let head = format!(in alloc; "p edge {} {count}\n", depth.saturating_add(4))?;
+    let mut file = Vec::new(alloc);
+    file.extend_from_slice(head.as_bytes())?;
+    file.extend_from_slice(&lines)?;
+    Ok(file)
+}
+
+fn check_deep(
+    rt: &impl Abort,
+    alloc: Global,
+    session: (SessionMode, &[u8]),
+    depth: u32,
+    edges: &[(u32, u32)],
+    text: &[u8],
+    want: bool,
+) -> Result<(), Fail> {
+    let file = deep_file(alloc, depth, edges)?;
+    let line = deep_line(alloc, depth, text)?;
+    check_state(rt, alloc, session, (Format::Dimacs, &file), &line, want)
+}
+
 #[test]
 fn deep_states(rt: HostRuntime) -> Result<(), Fail> {
-    let alloc = rt.alloc();
-    for (session, depth, edges, text, want) in DEEP {
-        let (lines, count) = deep_edges(alloc, depth, edges)?;
-        let mut file = Vec::new(alloc);
-        let head = format!(in alloc; "p edge {} {count}\n", depth.saturating_add(4))?;
-        file.extend_from_slice(head.as_bytes())?;
-        file.extend_from_slice(&lines)?;
-        let line = deep_line(alloc, depth, text)?;
-        check_state(&rt, alloc, session, (Format::Dimacs, &file), &line, want)?;
+    for (session, depth, edges, text, want) in &DEEP {
+        check_deep(&rt, rt.alloc(), *session, *depth, *edges, *text, *want)?;
     }
     Ok(())
 }

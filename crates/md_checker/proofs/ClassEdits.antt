@@ -142,10 +142,6 @@ module _ (class : Class) (g : PlainGraph) (w : ℕ) (h : PlainGraph) (off : IsSa
 
 -- ---- by the edit
 
--- a graph of the class is a cograph
-pub allowed_cograph : (class : Class) (g : PlainGraph) → IsAllowedIn class g → IsCograph g
-allowed_cograph class g free path = free (record { kind = kinds.P4; a = path.0; b = path.1; c = path.2; d = path.3 }, record { bars = tt; is = path.4 })
-
 name_inside : (class : Class) (w : ℕ) (h : PlainGraph) (bar : Bar) → IsBarOf class h bar → IsNameOf w bar → Has h.vertices w
 name_inside class w h bar is name = by_name (by_kind bar.kind is.is) name where
   by_kind : (k : BarKind) → IsBarOfKind k (adjacent h) h.vertices bar.a bar.b bar.c bar.d → Has h.vertices bar.a × Has h.vertices bar.b × Has h.vertices bar.c × Has h.vertices bar.d

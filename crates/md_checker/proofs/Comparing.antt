@@ -4,7 +4,7 @@ use Rattle.std.specs.List.{All}
 use Rattle.md_text.specs.declared.piece.Piece.{Piece}
 use Rattle.md_text.specs.Pieces.{piece_text, texts_at}
 use Rattle.md_text.proofs.PieceLemmas.{texts_more, texts_end}
-use Rattle.md_dimacs.proofs.BlockLemmas.{texts_append}
+use Rattle.md_blocks.proofs.BlockLemmas.{texts_append}
 use Rattle.md_checker.specs.Gathered.{Matches}
 
 -- a piece and the one at an index are gathered

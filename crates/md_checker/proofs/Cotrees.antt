@@ -23,7 +23,7 @@ use Rattle.md_report.specs.declared.line.SessionMode.{SessionMode}
 use Rattle.md_report.specs.Classes.{IsAllowedIn}
 use Rattle.md_report.specs.ItemLines.{IsAllowed}
 use Rattle.md_checker.specs.States.{IsStateText}
-use Rattle.md_checker.proofs.ClassEdits.{allowed_cograph}
+use Rattle.md_report.proofs.AllowedGraphs.{allowed_cograph}
 use Rattle.std.specs.List.{list_any}
 
 -- ---- a tree that is read

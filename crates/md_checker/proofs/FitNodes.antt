@@ -24,7 +24,8 @@ use Rattle.md_checker.specs.FitTests.{AreAlike, AreHeads, IsFitBy}
 use Rattle.std.specs.FinSet.{from_list}
 use Rattle.md_graph.specs.Sets.{union_all}
 use Rattle.md_tree.proofs.Heads.{child_here, place_of_child, heads_in}
-use Rattle.md_checker.proofs.Heads.{two_of_shape, some_child, have_heads, least_proof}
+use Rattle.md_outline.proofs.Heads.{two_of_shape, some_child}
+use Rattle.md_checker.proofs.Heads.{have_heads, least_proof}
 
 -- ---- lists of heads and sets
 
@@ -142,16 +143,13 @@ module _ {K P C : Type 0} {reverse : C → C} {e : ℕ → ℕ → C} (col : IsC
 -- the heads of the children of a node of a graph
 module _ {e : ℕ → ℕ → Bool} (adj : IsAdjacency e) (s : NameSet) (k : Kind) (ts : List PlainTree) (ps : List Pair) (canon : IsCanonicalNode k (row ts) ps) (each : EachNodeBelow IsCanonicalNode (row ts))
     (mods : (c : PlainTree) → IsChild (row ts) c → IsModule e s (names c)) where
-  own_heads : (i : ℕ) → i < count (row ts) → Has (names_at (row ts) i) (head_at (row ts) i)
-  own_heads = heads_in IsCanonicalNode some_child (row ts) each
-
   same_size : length (map head ts) ≡ count (row ts)
-  same_size = size (undirected adj) joins (λ k. k ≡ Prime) s k ts ps (some_child k (row ts) ps canon) own_heads mods
+  same_size = size (undirected adj) joins (λ k. k ≡ Prime) s k ts ps (some_child k (row ts) ps canon) (heads_in IsCanonicalNode some_child (row ts) each) mods
 
   pub node_heads : AreHeads s ps (map head ts)
   node_heads = record {
     some = let two = two_of_shape k (row ts) ps canon.shape in let e = same_size in omega arith;
-    vertices = head_vertices (undirected adj) joins (λ k. k ≡ Prime) s k ts ps (some_child k (row ts) ps canon) own_heads mods;
+    vertices = head_vertices (undirected adj) joins (λ k. k ≡ Prime) s k ts ps (some_child k (row ts) ps canon) (heads_in IsCanonicalNode some_child (row ts) each) mods;
     ascending = λ i j less below.
         let e = same_size in
         let l = ascend (row ts) canon.order each i j less (omega arith) in

@@ -31,7 +31,7 @@ use Rattle.md_tree.specs.Heads.{head, head_at, IsFitNodeBy}
 use Rattle.md_checker.specs.FitTests.{AreHeads, IsFitBy, IsFit, AreFitBy, AreFit, AreFinishedBy, AreFinished, MayPutBy, MayPut, IsTestedBy}
 use Rattle.md_graph.specs.Sets.{union_all}
 use Rattle.md_checker.proofs.FitNodes.{size, head_item, names_union, node_heads, fit_node, node_fit}
-use Rattle.md_checker.proofs.Heads.{some_child}
+use Rattle.md_outline.proofs.Heads.{some_child}
 
 module _ {K P : Type 0} where
   -- ---- trees in a row, one behind the other

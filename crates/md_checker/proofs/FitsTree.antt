@@ -27,7 +27,7 @@ use Rattle.md_tree.proofs.Graph.{adjacent_right}
 use Rattle.md_tree.proofs.Heads.{child_here, heads_in}
 use Rattle.md_tree.proofs.Fitted.{at_places, told_by_heads, by_positions, by_trees, modules_below, to_fit, of_fit}
 use Rattle.md_checker.specs.Fits.{IsFitNode, FitsIfTree}
-use Rattle.md_checker.proofs.Heads.{some_child, tree_head}
+use Rattle.md_outline.proofs.Heads.{some_child, tree_head}
 use Rattle.md_checker.proofs.Listed.{to_listed, of_listed}
 
 module _ {e : ℕ → ℕ → Bool} (adj : IsAdjacency e) (s : NameSet) where

@@ -1,12 +1,8 @@
 -- A graph as a comparison with the text of a tree sees it.
-use Rattle.std.proofs.Common.{◌≡◌, ℕ, ◌+◌, ◌<◌, ◌≤◌, Bool, true, Some, min, max, List, [], length, get_or, refl, sym, ◌∙◌, ap, ap₂, subst, inl, inr, lt-ltb, ltb-true, nat_lt, true≢false, arith}
-use Rattle.std.specs.Prelude.{◌↔◌}
+use Rattle.std.proofs.Common.{◌≡◌, ℕ, ◌≤◌, Bool, true, Some, min, max, List, [], get_or, refl, sym, ◌∙◌, ap, ap₂, subst, true≢false, arith}
 use Rattle.std.specs.Cmp.{both_ways}
-use Rattle.std.specs.FinSet.{contains}
-use Rattle.std.proofs.lemmas.Bool.{and_parts, and_from, cases_lt}
-use Rattle.md_graph.specs.PlainGraph.{PlainGraph, IsGraph, adjacent, neighbours}
-use Rattle.md_graph.specs.Sets.{NameSet, Has}
-use Rattle.md_graph.proofs.GraphLemmas.{contains-neighbours}
+use Rattle.md_graph.specs.PlainGraph.{PlainGraph, IsGraph, adjacent}
+use Rattle.md_graph.specs.Sets.{Has}
 use Rattle.md_graph.proofs.Search.{decide_test}
 use Rattle.md_modules.proofs.Modules.{undirected}
 use Rattle.md_modules.proofs.Turns.{graph_adjacency}
@@ -26,33 +22,10 @@ use Rattle.md_checker.specs.FitTests.{AreJoined}
 use Rattle.md_outline.specs.NodeRows.{is_edge_up}
 use Rattle.md_checker.specs.GraphViews.{view_where}
 use Rattle.md_outline.specs.HeadPairs.{head_pairs}
-use Rattle.md_checker.specs.TextViews.{IsView, IsTextOf}
+use Rattle.md_checker.specs.TextViews.{IsView, IsTextOfTree}
 use Rattle.md_checker.proofs.FitsTree.{fits_proof}
 use Rattle.md_outline.proofs.HeadPairs.{ascend_two, listed_in, in_listed}
-
-edge_up : (e : ℕ → ℕ → Bool) (v w : ℕ) → (is_edge_up e v w ≡ true) ↔ ((e v w ≡ true) × (v < w))
-edge_up e v w = (
-  λ t. let two = and_parts (e v w) (nat_lt v w) t in (two.0, ltb-true v w two.1),
-  λ t. and_from (e v w) (nat_lt v w) t.0 (lt-ltb v w t.1),
-)
-
--- of ascending names the lower one stands first
-stands_first : (list : List ℕ) → Ascends list → (i j : ℕ) → i < length list → j < length list → get_or list i 0 < get_or list j 0 → i < j
-stands_first list up i j bi bj less = elim (cases_lt i j) [
-  | inl first ↦ first
-  | inr over ↦ elim (cases_lt j i) [
-    | inl other ↦ (let a = ascend_two list up j i other bi in absurd (omega arith))
-    | inr same ↦ (let e : i ≡ j = omega arith in let a : get_or list j 0 < get_or list j 0 = subst (λ k. get_or list k 0 < get_or list j 0) e less in absurd (omega arith))
-  ]
-]
-
--- the row of a vertex, from the next name on
-pub edges_ahead : {g : PlainGraph} → IsGraph g → (v : ℕ) (row : NameSet) → row ≡ neighbours g v → (y : ℕ) → (is_edge_up (adjacent g) v y ≡ true) ↔ (Has row y × (v + 1 ≤ y))
-edges_ahead {g} graph v row is y =
-    let told : contains row y ≡ adjacent g v y = ap (λ s. contains s y) is ∙ contains-neighbours graph v y in (
-      λ t. let two = (edge_up (adjacent g) v y).0 t in (told ∙ two.0, (let a = two.1 in omega arith)),
-      λ t. (edge_up (adjacent g) v y).1 (sym told ∙ t.0, (let a : v + 1 ≤ y = t.1 in omega arith)),
-    )
+use Rattle.md_outline.proofs.NodeRows.{edge_up, stands_first}
 
 -- the pairs that are listed join exactly the adjacent names
 edges_joined : (e : ℕ → ℕ → Bool) (list : List ℕ) → Ascends list → AreJoined e Prime (head_pairs graph_pairs (is_edge_up e) list) list
@@ -85,7 +58,7 @@ graph_seen Admits {g} graph = record {
 }
 
 -- a text that the comparison takes is that of the tree of strong modules
-pub text_told : (Admits : Kind → PlainTrees → Type 0) {g : PlainGraph} → IsGraph g → (text : List ℕ) (t : PlainTree) → IsTextOf graph_kinds graph_pairs (view_where Admits g) text t → IsWellFormed (Some t) × IsTreeOf (adjacent g) g.vertices t × (text ≡ tree_text t)
+pub text_told : (Admits : Kind → PlainTrees → Type 0) {g : PlainGraph} → IsGraph g → (text : List ℕ) (t : PlainTree) → IsTextOfTree graph_kinds graph_pairs (view_where Admits g) text t → IsWellFormed (Some t) × IsTreeOf (adjacent g) g.vertices t × (text ≡ tree_text t)
 text_told Admits {g} graph text t is = (
   ((λ x h. graph.names x (subst (λ s. Has s x) is.names_are h)), is.canonical),
   (fits_proof (adjacent g) (graph_adjacency graph) g.vertices t is.canonical).0 (is.names_are, is.fits),

@@ -2,11 +2,11 @@
 use Rattle.std.proofs.Common.{◌≡◌, ◌≢◌, ◌⊎◌, true, false, ℕ, suc, ◌+◌, ◌≤◌, List, [], ◌∷◌, ◌++◌, length, refl, sym, ◌∙◌, ap, ap₂, subst, inl, inr, arith, append_assoc, append-nil, length-append}
 use Rattle.std.specs.Prelude.{◌==◌}
 use Rattle.std.specs.List.{flat_map}
-use Rattle.std.proofs.lemmas.Bool.{ne_eqb}
 use Rattle.std.proofs.lemmas.Grind.{flat_map-append}
 use Rattle.md_graph.proofs.SetLemmas.{clash}
 use Rattle.md_report.specs.Cuts.{LacksByte}
 use Rattle.md_report.specs.Protocols.{fed_by, LeadBy, IsReportBy, CanEnd, IsLast, IsLineSpelling}
+use Rattle.md_report.proofs.Behind.{nothing_left}
 use Rattle.md_report.proofs.Protocols.{lead_append, lead_split}
 use Rattle.md_checker.specs.declared.answer.CheckAnswer.TheVariants.{Rejected}
 use Rattle.md_checker.specs.Answers.{SharesFirstBy, IsCheckAnswerBy}
@@ -23,11 +23,7 @@ pub record HaveCome {P L : Type 0} (MayCome : P → L → Type 0) (next : P → 
 abbrev pub IsStuck : {P L : Type 0} → (P → L → Type 0) → (L → List ℕ) → P → List ℕ → Type 0
 IsStuck {P} {L} MayCome text q rest = (line : L) → MayCome q line → (more : List ℕ) → rest ≢ fed_by text line ++ more
 
--- a text of no bytes, and one of some
-pub no_bytes : (rest : List ℕ) → (length rest == 0) ≡ true → rest ≡ []
-no_bytes [] none = refl
-no_bytes (x ∷ rest) none = absurd (clash none (ne_eqb (length (x ∷ rest)) 0 (λ e. omega arith)))
-
+-- a text of some bytes
 pub some_left : (rest : List ℕ) → (length rest == 0) ≡ false → rest ≢ []
 some_left rest some none = let f : (length rest == 0) ≡ true = ap (λ (w : List ℕ). length w == 0) none in clash f some
 
@@ -132,4 +128,4 @@ module _ {P L : Type 0} (MayCome : P → L → Type 0) (text : L → List ℕ) (
 
   -- nor is a rest of no bytes
   pub stuck_empty : (q : P) (rest : List ℕ) → (length rest == 0) ≡ true → IsStuck MayCome text q rest
-  stuck_empty q rest none = stuck_rest q rest (subst (LacksByte 10) (sym (no_bytes rest none)) tt)
+  stuck_empty q rest none = stuck_rest q rest (subst (LacksByte 10) (sym (nothing_left rest none)) tt)

@@ -6,19 +6,19 @@ use Rattle.md_bar_tree.specs.declared.BarKind.TheVariants.{P4}
 use Rattle.md_bar_tree.specs.declared.Class.{Class}
 use Rattle.md_bar_tree.specs.declared.Bar.{Bar}
 use Rattle.md_report.specs.Lines.{PlainLine, path_bar, path_of_bar, barred, not_cograph}
-use Rattle.md_report.specs.Cographs.{IsPathOf, HasP4Line}
+use Rattle.md_report.specs.Cographs.{IsP4Bar, HasP4Line}
 use Rattle.md_report.specs.Classes.{IsBarOf, HasBarLine}
 
 path_again : (bar : Bar) → bar.kind ≡ P4 → path_bar (path_of_bar bar) ≡ bar
 path_again bar is = ap (λ k. let same : Bar = record { kind = k; a = bar.a; b = bar.b; c = bar.c; d = bar.d } in same) (sym is)
 
-pub path_line : (g : PlainGraph) (line : PlainLine) (bar : Bar) (b : Bool) → line ≡ barred bar → IsTrue b ↔ IsPathOf g bar → IsTrue b ↔ HasP4Line not_cograph g line
+pub path_line : (g : PlainGraph) (line : PlainLine) (bar : Bar) (b : Bool) → line ≡ barred bar → IsTrue b ↔ IsP4Bar g bar → IsTrue b ↔ HasP4Line not_cograph g line
 path_line g line bar b is told = (
   (λ yes. let path = told.0 yes in (path_of_bar bar, path.1, is ∙ ap barred (sym (path_again bar path.0)))),
   (λ has.
       let both : barred bar ≡ barred (path_bar has.0) = sym is ∙ has.2 in
       let same : path_bar has.0 ≡ bar = cc in
-      told.1 (subst (IsPathOf g) same (refl, has.1))),
+      told.1 (subst (IsP4Bar g) same (refl, has.1))),
 )
 
 pub no_path_line : (g : PlainGraph) (line : PlainLine) → ((bar : Bar) → line ≢ barred bar) → IsTrue false ↔ HasP4Line not_cograph g line

@@ -17,7 +17,7 @@ use Rattle.md_modules.proofs.Splits.{closed_split, split_closed, closed_rest}
 use Rattle.md_modules.proofs.Components.{closed_follow, component_unsplit, unsplit_prime}
 use Rattle.md_modules.proofs.Paths.{prime_path, path_within}
 use Rattle.md_checker.specs.declared.cograph_test.Unsplit.{Unsplit}
-use Rattle.md_checker.specs.Splitting.{IsTakenApart}
+use Rattle.md_checker.specs.Splitting.{IsSplitUp}
 
 -- the sets that are left of s lie in s, and one has an induced path where s has one
 pub record IsSplitDown {w : ℕ} (e : ℕ → ℕ → Bool) (s : NameSet) (left : List (Unsplit w)) : Type 0 where
@@ -115,7 +115,7 @@ module _ {e : ℕ → ℕ → Bool} where
       is = now ∙ ap (λ (us : List (Unsplit w)). us ++ u ∷ []) begun
 
     -- the sets that come of one set lie in it
-    parts_inside : (s : NameSet) (sets : List (Unsplit w)) → IsTakenApart e s sets → (q : Unsplit w) → Contains sets q → Within q.names s
+    parts_inside : (s : NameSet) (sets : List (Unsplit w)) → IsSplitUp e s sets → (q : Unsplit w) → Contains sets q → Within q.names s
     parts_inside s sets (inl few) q h = absurd (omega (arith, (among few.1 h).1))
     parts_inside s sets (inr r) q h = elim (Contains-push_cases (r.0 ∷ []) r.1 q (among r.3 h)) [
       | inr one ↦ subst (λ (t : Unsplit w). Within t.names s) one r.4.inside
@@ -126,7 +126,7 @@ module _ {e : ℕ → ℕ → Bool} where
     ]
 
     -- and take fewer turns
-    fewer_turns : (s : NameSet) (sets : List (Unsplit w)) → IsTakenApart e s sets → sum_by turns sets < 1 + (2 * len s - 2)
+    fewer_turns : (s : NameSet) (sets : List (Unsplit w)) → IsSplitUp e s sets → sum_by turns sets < 1 + (2 * len s - 2)
     fewer_turns s sets (inl few) = let none : sum_by turns sets ≡ 0 = ap (sum_by turns) few.1 in omega arith
     fewer_turns s sets (inr r) =
         let split = r.4 in
@@ -145,7 +145,7 @@ module _ {e : ℕ → ℕ → Bool} where
       pub down_found : HasInducedPath e u.names → HasInducedPath e s
       down_found path = path_within u.names s down_last path
 
-      pub down_falls : (sets left' : List (Unsplit w)) → left' ≡ front ++ sets → IsTakenApart e u.names sets → sum_by turns left' < sum_by turns left
+      pub down_falls : (sets left' : List (Unsplit w)) → left' ≡ front ++ sets → IsSplitUp e u.names sets → sum_by turns left' < sum_by turns left
       down_falls sets left' now apart =
           let fewer : sum_by turns sets < turns u = fewer_turns u.names sets apart in
           let new : sum_by turns left' ≡ sum_by turns front + sum_by turns sets = ap (sum_by turns) now ∙ sum_by-append turns front sets in
@@ -153,7 +153,7 @@ module _ {e : ℕ → ℕ → Bool} where
           let one : sum_by turns (u ∷ []) ≡ 0 + turns u = refl in
           omega arith
 
-      pub down_more : IsAdjacency e → (sets left' : List (Unsplit w)) → left' ≡ front ++ sets → IsTakenApart e u.names sets → IsSplitDown e s left'
+      pub down_more : IsAdjacency e → (sets left' : List (Unsplit w)) → left' ≡ front ++ sets → IsSplitUp e u.names sets → IsSplitDown e s left'
       down_more adj sets left' now apart = record {
         inside = λ q h. elim (Contains-append_cases front sets q (among now h)) [
           | inl i ↦ down.inside q (among (sym is) (Contains-append_left front (u ∷ []) q i))
@@ -161,7 +161,7 @@ module _ {e : ℕ → ℕ → Bool} where
         ];
         path = λ path. behind (down.path path);
       } where
-        one_has : IsTakenApart e u.names sets → HasInducedPath e u.names → (q : Unsplit w) × Contains sets q × HasInducedPath e q.names
+        one_has : IsSplitUp e u.names sets → HasInducedPath e u.names → (q : Unsplit w) × Contains sets q × HasInducedPath e q.names
         one_has (inl few) path = absurd (no_path_of_few u.names few.0 path)
         one_has (inr r) path = elim (split_path adj u.names r.1.names r.2 r.4 path) [
           | inl p ↦ (r.1, among (sym r.3) (Contains-push (r.0 ∷ []) r.1), p)

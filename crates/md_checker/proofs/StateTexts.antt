@@ -19,7 +19,7 @@ use Rattle.md_report.specs.ItemLines.{IsAllowed}
 use Rattle.md_report.proofs.ByTrees.{cograph_by_tree}
 use Rattle.md_checker.specs.GraphViews.{MayStandIn, state_view}
 use Rattle.md_checker.specs.States.{HasOneNode, IsStateText}
-use Rattle.md_checker.specs.TextViews.{root_kind, IsTextOf}
+use Rattle.md_checker.specs.TextViews.{root_kind, IsTextOfTree}
 use Rattle.md_checker.proofs.GraphTexts.{text_told}
 
 -- ---- what holds of each node
@@ -46,7 +46,7 @@ state_allowed (Of class) {g} graph t made each =
     (no_bar_if_few_inner_proof (adjacent g) (graph_adjacency graph) g.vertices (Some t) made ((cograph_by_tree g graph (Some t) made).0 two.0) class).1 two.1
 
 -- a text that the comparison takes is that of a state, behind the word
-pub state_told : (mode : SessionMode) {g : PlainGraph} → IsGraph g → (word behind text : List ℕ) → text ≡ word ++ behind → (t : PlainTree) → IsTextOf graph_kinds graph_pairs (state_view mode g) behind t → IsStateText mode g word text
+pub state_told : (mode : SessionMode) {g : PlainGraph} → IsGraph g → (word behind text : List ℕ) → text ≡ word ++ behind → (t : PlainTree) → IsTextOfTree graph_kinds graph_pairs (state_view mode g) behind t → IsStateText mode g word text
 state_told mode graph word behind text cut t is =
     let good = text_told (MayStandIn mode) graph behind t is in
     record { allowed = state_allowed mode graph t good.1 is.admitted; tree = t; fits = good.1; spelled = cut ∙ ap (λ l. word ++ l) good.2 }

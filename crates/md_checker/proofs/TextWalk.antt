@@ -28,7 +28,7 @@ use Rattle.md_tree.proofs.Coming.{due_start, due_name, due_node, behind_comma, b
 use Rattle.md_tree.proofs.Nodes.{IsChild, at_apart, at_inside, at_position, child_at, position_below}
 use Rattle.md_checker.specs.FitTests.{AreAlike}
 use Rattle.md_checker.specs.TextFits.{LacksKindIf, MayHaveKinds, AreLive, HasOthers, IsReadBy, IsReadInsideBy}
-use Rattle.md_checker.specs.TextViews.{View, root_kind, IsView, StandForChildren, IsFitView, FitsView, AdmitsNode, IsTextOf}
+use Rattle.md_checker.specs.TextViews.{View, root_kind, IsView, StandForChildren, IsFitView, FitsView, AdmitsNode, IsTextOfTree}
 use Rattle.md_checker.proofs.NamedNodes.{least_here, named_fit}
 
 -- ---- the kinds of children
@@ -146,7 +146,7 @@ module _ {K P : Type 0} {kinds : KindRules K} {pairs : PairRules P} (law : IsSpe
   -- ---- the end of the text
 
   pub read_whole : (bytes rest : List ℕ) (list : List ℕ) (roots : List (Option K)) (opens : List (Opened K)) (seen live : NameSet) →
-      IsReadBy kinds pairs v bytes rest true list roots opens seen live → rest ≡ [] → opens ≡ [] → seen ≡ v.vertices → (t : PlainTreeOf K P) × IsTextOf kinds pairs v bytes t
+      IsReadBy kinds pairs v bytes rest true list roots opens seen live → rest ≡ [] → opens ≡ [] → seen ≡ v.vertices → (t : PlainTreeOf K P) × IsTextOfTree kinds pairs v bytes t
   read_whole bytes rest list roots opens seen live r none closed all =
       let b = behind_end law bytes rest opens r.trees list seen r.walked.kept r.comes closed none in
       let t = b.tree in

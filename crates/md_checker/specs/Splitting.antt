@@ -8,7 +8,7 @@ use Rattle.md_checker.specs.declared.cograph_test.Unsplit.{Unsplit}
 
 -- what comes of the set s: nothing where it has fewer than four names, and else the two parts of a
 -- split
-abbrev pub IsTakenApart : {w : ℕ} → (ℕ → ℕ → Bool) → NameSet → List (Unsplit w) → Type 0
-IsTakenApart {w} e s sets = ((len s < 4) × (sets ≡ []))
+abbrev pub IsSplitUp : {w : ℕ} → (ℕ → ℕ → Bool) → NameSet → List (Unsplit w) → Type 0
+IsSplitUp {w} e s sets = ((len s < 4) × (sets ≡ []))
     ⊎ ((rest : Unsplit w) × (part : Unsplit w) × (joined : Bool) × (sets ≡ rest ∷ part ∷ [])
     × IsSplit e s part.names joined × (rest.names ≡ difference s part.names))

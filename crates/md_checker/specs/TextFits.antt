@@ -11,8 +11,8 @@ use Rattle.md_checker.specs.declared.text_walk.Walk.{Walk}
 use Rattle.md_checker.specs.TextViews.{View, root_kind, FitsView, AdmitsNode}
 
 -- a node that is open, before whose children so many trees are finished
-abbrev pub opened : {K : Type 0} → K → ℕ → Opened K
-opened k first = record { kind = k; first = first }
+abbrev pub opened_at : {K : Type 0} → K → ℕ → Opened K
+opened_at k first = record { kind = k; first = first }
 
 -- a node of a kind that lists no pairs has no child of its own kind
 abbrev pub LacksKindIf : {K : Type 0} → Bool → K → List (Option K) → Type 0

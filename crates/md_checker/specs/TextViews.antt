@@ -70,7 +70,7 @@ AdmitsNode v k cs ps = v.Admits k cs
 
 -- the text is that of the tree t, which is as well-formed trees are, has the vertices as its names, fits the graph, and has nodes
 -- as they are asked for
-pub record IsTextOf {K P : Type 0} (kinds : KindRules K) (pairs : PairRules P) (v : View K P) (text : List ℕ) (t : PlainTreeOf K P) : Type 0 where
+pub record IsTextOfTree {K P : Type 0} (kinds : KindRules K) (pairs : PairRules P) (v : View K P) (text : List ℕ) (t : PlainTreeOf K P) : Type 0 where
   pub canonical : IsCanonicalTreeBy (spelling kinds pairs) t
   pub names_are : names t ≡ v.vertices
   pub fits : EachNode (FitsView v) t

@@ -152,7 +152,9 @@ impl<'a> Checker<'a> {
     }
 
     // Whether a line with this text may come, where the text is read whole: it is then taken, and
-    // else nothing changes. Errors: want of memory; nothing changes then.
+    // else nothing changes. Errors: want of memory; nothing changes then. Never inlined, so that a
+    // line that is taken by its text has no part in the stack that this takes.
+    #[inline(never)]
     fn feed_read(&mut self, alloc: Global, text: &[u8]) -> Result<bool, Memory>
         ensures may { IfOk result (λ taken. IsTrue taken
             ↔ ((line : PlainLine) × MayCome self.old line × (text.now ≡ line_text line))) }

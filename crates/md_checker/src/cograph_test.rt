@@ -7,7 +7,7 @@ ghost use Rattle.md_modules.specs.Kinds.{IsSplit};
 ghost use Rattle.md_modules.specs.InducedPaths.{HasInducedPath};
 ghost use Rattle.md_report.specs.Cographs.{IsCograph};
 ghost use Rattle.md_checker.specs.declared.cograph_test.Unsplit.{Unsplit};
-ghost use Rattle.md_checker.specs.Splitting.{IsTakenApart};
+ghost use Rattle.md_checker.specs.Splitting.{IsSplitUp};
 
 use md_graph::{GraphOf, Memory, Set};
 use md_modules::{CompactSet, co_component, component};
@@ -53,7 +53,7 @@ fn take_apart<const W: usize>(
     requires { Within set.names graph.now.vertices }
     ensures apart { IfOk result (λ yes. IsTrue yes → (sets : List (Unsplit W))
         × (left.new.items ≡ left.old.items ++ sets)
-        × IsTakenApart (adjacent graph.now) set.entry.names sets) }
+        × IsSplitUp (adjacent graph.now) set.entry.names sets) }
     ensures path { IfOk result (λ yes. ¬ (IsTrue yes)
         → HasInducedPath (adjacent graph.now) set.entry.names) }
 {

@@ -91,7 +91,9 @@ impl DueGraph {
     }
 }
 
-// Whether the text is that of a line that reports the graph; a false says nothing.
+// Whether the text is that of a line that reports the graph; a false says nothing. Never inlined,
+// so that the stack holds the frame of one width alone.
+#[inline(never)]
 fn reports_by_text<const W: usize>(
     alloc: Global,
     mode: GraphMode,

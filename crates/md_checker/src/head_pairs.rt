@@ -1,5 +1,5 @@
 //! Compares a text with the pairs of a prime node that a graph demands. No pair is kept.
-ghost use Rattle.std.specs.Prelude.{◌≡◌, ◌≢◌, ◌+◌, ◌<◌, ◌≤◌, ◌^◌, ℕ, Bool, true, List, [], ◌∷◌, ◌++◌, length, get_or, IfOk, IfSome};
+ghost use Rattle.std.specs.Prelude.{◌≡◌, ◌≢◌, ◌+◌, ◌<◌, ◌≤◌, ◌^◌, ℕ, Bool, true, List, [], ◌∷◌, ◌++◌, length, IfOk, IfSome};
 ghost use Rattle.std.specs.List.{All};
 ghost use Rattle.md_graph.specs.declared.TheConstants.{NAMES, WORDS};
 ghost use Rattle.md_tree.specs.TreeTexts.{pairs_text_by};
@@ -10,28 +10,9 @@ ghost use Rattle.md_checker.specs.TextViews.{StandForChildren};
 use crate::piece_compare::{past_each, put_pair};
 use crate::text_graph::TextGraph;
 use md_graph::{Members, Memory, Set};
-use md_text::{Chunk, Piece, digits_piece, number_piece, piece_behind, skip_byte};
+use md_outline::PairSpace;
+use md_text::{number_piece, piece_behind, skip_byte};
 use md_tree::{Lettered, Paired};
-use std::alloc::Global;
-
-// What a comparison of pairs needs beside the text: at the place of each head its position, a chunk
-// in which pairs are gathered, and the mark before the next pair.
-#[derive(Drop)]
-pub(crate) struct PairSpace {
-    places: Vec<Piece>,
-    chunk: Chunk,
-    mark: u8,
-}
-
-impl PairSpace {
-    pub(crate) fn new(alloc: Global) -> PairSpace {
-        PairSpace {
-            places: Vec::new(alloc),
-            chunk: Chunk::new(),
-            mark: b';',
-        }
-    }
-}
 
 // What stands behind the pairs of a prime node with these names of its children, and behind its
 // bracket; none if the text doesn't begin with them, or if there is no pair. Condition: there are
@@ -50,7 +31,7 @@ pub(crate) fn past_pairs<'a, K: Lettered, P: Paired, G: TextGraph<K, P, W>, cons
     ensures text { IfOk result (λ o. IfSome o (λ tail. text.now ≡ pairs_text_by P.rules 59
         (head_pairs P.rules (G.view graph.now).lists heads.now) ++ 41 ∷ tail.now)) }
 {
-    spell_places(&mut space.places, heads)?;
+    space.places.spell(heads)?;
     let Some(rest) = past_heads::<K, P, G, W>(graph, heads, text, space) else {
         return Ok(None);
     };
@@ -73,32 +54,6 @@ pub(crate) fn past_bracket(text: &[u8]) -> Option<&[u8]>
     }
 }
 
-// Puts down the position of each head at its place.
-fn spell_places(places: &mut Vec<Piece>, heads: &[u32]) -> Result<(), Memory>
-    requires some { 0 < length heads.now }
-    requires ascending { (i j : ℕ) → i < j → j < length heads.now
-        → get_or heads.now i 0 < get_or heads.now j 0 }
-    requires few { length heads.now ≤ NAMES }
-    ensures { IfOk result (λ _. SpellPositions places.new.items 0 heads.now) }
-{
-    make_places(places, heads[heads.len() - 1])?;
-    for (position, head) in heads.iter().enumerate() {
-        places[*head as usize] = digits_piece(position as u32);
-    }
-    Ok(())
-}
-
-// Makes places, so that there is one for the name.
-fn make_places(places: &mut Vec<Piece>, last: u32) -> Result<(), Memory>
-    ensures { IfOk result (λ _. last < length places.new.items) }
-{
-    let count = last as usize + 1;
-    if places.len() < count {
-        places.resize(count, digits_piece(0))?;
-    }
-    Ok(())
-}
-
 // Compares the pairs of the heads, of which the last ones may still be gathered.
 fn past_heads<'a, K: Lettered, P: Paired, G: TextGraph<K, P, W>, const W: usize>(
     graph: &G,
@@ -109,7 +64,7 @@ fn past_heads<'a, K: Lettered, P: Paired, G: TextGraph<K, P, W>, const W: usize>
     requires limit { W ≤ WORDS }
     requires heads { StandForChildren (G.view graph.now).vertices true heads.now }
     requires few { length heads.now ≤ NAMES }
-    requires places { SpellPositions space.old.places.items 0 heads.now }
+    requires places { SpellPositions space.old.places 0 heads.now }
     ensures { IfSome result (λ rest. MatchesPairs P.rules text.now rest.now space.new.mark
         space.new.chunk (head_pairs P.rules (G.view graph.now).lists heads.now)) }
 {
@@ -134,14 +89,14 @@ fn past_row<'a, P: Paired>(
     space: &mut PairSpace,
 ) -> Option<&'a [u8]>
     requires low { low < 10 ^ 5 }
-    requires there { All (λ v. v < length space.old.places.items) near }
+    requires there { All (λ v. v < length space.old.places) near }
     ensures matches { IfSome result (λ rest. (e : ℕ → ℕ → Bool) (v j : ℕ) (ws whole : List ℕ)
-        (ps : List P) → SpellPositions space.old.places.items j ws
+        (ps : List P) → SpellPositions space.old.places j ws
         → near.entry ≡ near_heads e v ws
         → MatchesPairs P.rules whole text.now space.old.mark space.old.chunk ps
         → MatchesPairs P.rules whole rest.now space.new.mark space.new.chunk
         (ps ++ near_pairs P.rules e v low j ws)) }
-    ensures places { space.new.places.items ≡ space.old.places.items }
+    ensures places { space.new.places ≡ space.old.places }
 {
     let mut others = near;
     let Some(first) = others.next() else {
@@ -150,12 +105,18 @@ fn past_row<'a, P: Paired>(
     let digits = number_piece(low, P::between());
     let start = piece_behind(space.mark, digits);
     space.mark = b',';
-    let rest = put_pair(start, first, text, &space.places, &mut space.chunk)?;
+    let rest = put_pair(
+        start,
+        first,
+        text,
+        space.places.as_slice(),
+        &mut space.chunk,
+    )?;
     past_each(
         piece_behind(b',', digits),
         others,
         rest,
-        &space.places,
+        space.places.as_slice(),
         &mut space.chunk,
     )
 }

@@ -12,7 +12,7 @@ ghost use Rattle.md_report.specs.Places.{Reports, ReportsState, ClosesItems};
 ghost use Rattle.md_report.specs.Sessions.{HasTreeLine};
 ghost use Rattle.md_report.specs.Orientations.{IsOrientationLine, IsShortestLine};
 ghost use Rattle.md_report.specs.Models.{IsModelLine};
-ghost use Rattle.md_report.specs.Cographs.{IsPathOf, IsCograph, HasP4Line, IsOpeningLine};
+ghost use Rattle.md_report.specs.Cographs.{IsP4Bar, IsCograph, HasP4Line, IsOpeningLine};
 ghost use Rattle.md_report.specs.Classes.{IsAllowedIn, HasBarLine, IsClassOpening};
 ghost use Rattle.md_report.specs.ItemLines.{IsBarred};
 ghost use Rattle.md_checker.specs.ReportLines.{plain_report_line, HasWellFormedTree};
@@ -209,7 +209,7 @@ pub(crate) fn bars_state<const W: usize>(mode: SessionMode, graph: &GraphOf<W>, 
 
 // Whether the bar is an induced P4 of the graph.
 fn is_path<const W: usize>(graph: &GraphOf<W>, bar: &Bar) -> bool
-    ensures { IsTrue result ↔ IsPathOf graph.now bar.now }
+    ensures { IsTrue result ↔ IsP4Bar graph.now bar.now }
 {
     let Bar { kind, a, b, c, d } = *bar;
     kind == BarKind::P4 && is_p4(graph, &P4 { a, b, c, d })

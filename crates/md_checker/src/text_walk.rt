@@ -8,13 +8,14 @@ ghost use Rattle.md_text.specs.Fronts.{IsNumberSplit};
 ghost use Rattle.md_tree.specs.Held.{AscendsIf, IsMinimum, MayListIf};
 ghost use Rattle.md_tree.specs.Trees.{PlainTreeOf};
 ghost use Rattle.md_tree.specs.TreeTexts.{pairs_text_by};
-ghost use Rattle.md_checker.specs.TextFits.{opened, MayHaveKinds, AreLive, HasOthers, IsRead, IsReadInside, IsReadOn};
-ghost use Rattle.md_checker.specs.TextViews.{StandForChildren, IsFitView, IsTextOf, listed_pairs};
+ghost use Rattle.md_checker.specs.TextFits.{opened_at, MayHaveKinds, AreLive, HasOthers, IsRead, IsReadInside, IsReadOn};
+ghost use Rattle.md_checker.specs.TextViews.{StandForChildren, IsFitView, IsTextOfTree, listed_pairs};
 
-use crate::head_pairs::{PairSpace, past_bracket, past_pairs};
+use crate::head_pairs::{past_bracket, past_pairs};
 use crate::node_fit::is_fit_node;
 use crate::text_graph::TextGraph;
 use md_graph::{Memory, NAMES, Set};
+use md_outline::PairSpace;
 use md_text::{skip_byte, small_number};
 use md_tree::{Lettered, Opened, Paired, ascends, split_letter};
 use std::alloc::Global;
@@ -43,7 +44,7 @@ pub fn is_text_by_rows<K: Lettered, P: Paired, G: TextGraph<K, P, W>, const W: u
 ) -> Result<bool, Memory>
     requires limit { W ≤ WORDS }
     ensures text { IfOk result (λ fit. IsTrue fit → (t : PlainTreeOf K P)
-        × IsTextOf K.rules P.rules (G.view graph.now) text.now t) }
+        × IsTextOfTree K.rules P.rules (G.view graph.now) text.now t) }
 {
     let vertices = graph.vertices();
     let size = vertices.count() as usize;
@@ -151,7 +152,7 @@ fn begin_node<'a, K: Lettered>(
     requires { text.now ≡ K.rules.letter kind ∷ tail.now }
     ensures { IfOk result (λ o. IfSome o (λ inside.
         (text.now ≡ K.rules.letter kind ∷ 40 ∷ inside.now)
-        × (opens.new.items ≡ opens.old.items ++ opened kind first ∷ []))) }
+        × (opens.new.items ≡ opens.old.items ++ opened_at kind first ∷ []))) }
 {
     if opens.len() >= NAMES as usize || first >= NAMES as usize {
         return Ok(None);

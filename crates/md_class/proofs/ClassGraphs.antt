@@ -1,24 +1,28 @@
 -- Graphs of a class, and histories over them.
-use Rattle.std.proofs.Common.{ℕ, List, [], ◌∷◌}
-use Rattle.md_graph.specs.PlainGraph.{PlainGraph}
-use Rattle.md_modules.specs.declared.induced_paths.P4.{P4}
+use Rattle.std.proofs.Common.{ℕ, List, [], ◌∷◌, Option}
+use Rattle.md_graph.specs.PlainGraph.{PlainGraph, adjacent}
+use Rattle.md_modules.proofs.Turns.{graph_adjacency}
+use Rattle.md_tree.specs.Trees.{PlainTree}
+use Rattle.md_tree.specs.StrongTrees.{IsTree}
 use Rattle.md_bar_tree.specs.declared.Class.{Class}
+use Rattle.md_bar_tree.specs.Inner.{HasFewInnerIn}
+use Rattle.md_bar_tree.proofs.BarLaw.{no_bar_if_few_inner_proof}
+use Rattle.md_cotree.specs.declared.cotree.Cotree.{Cotree}
+use Rattle.md_cotree.specs.Cotrees.{Denotes}
+use Rattle.md_cotree.proofs.NoPaths.{cotree_graph, cotree_no_path}
 use Rattle.md_script.specs.declared.edit.Edit.{Edit}
 use Rattle.md_script.specs.Pasts.{taken_back}
 use Rattle.md_script.specs.Histories.{HistoryFits}
 use Rattle.md_script.proofs.GroupLemmas.{back_weaker}
-use Rattle.md_report.specs.Lines.{path_bar}
-use Rattle.md_report.specs.Cographs.{IsP4Of, IsCograph}
-use Rattle.md_report.specs.Classes.{IsAllowedIn, IsBarOf}
+use Rattle.md_report.specs.Cographs.{IsCograph}
+use Rattle.md_report.specs.Classes.{IsAllowedIn}
+use Rattle.md_report.proofs.AllowedGraphs.{allowed_cograph}
 
--- ---- induced P4s
+-- ---- few inner children
 
-pub path_bars : (class : Class) (g : PlainGraph) (p : P4) → IsP4Of g p → IsBarOf class g (path_bar p)
-path_bars class g p path = record { bars = tt; is = path }
-
-pub allowed_cograph : (class : Class) (g : PlainGraph) → IsAllowedIn class g → IsCograph g
-allowed_cograph class g free path =
-    let p : P4 = record { a = path.0; b = path.1; c = path.2; d = path.3 } in free (path_bar p, path_bars class g p path.4)
+-- where the tree of a cotree's graph has few inner children the graph is of the class
+pub few_allowed : (class : Class) (c : Cotree) (g : PlainGraph) (o : Option PlainTree) → Denotes c g → IsTree (adjacent g) g.vertices o → HasFewInnerIn class o → IsAllowedIn class g
+few_allowed class c g o den is few = (no_bar_if_few_inner_proof (adjacent g) (graph_adjacency (cotree_graph c g den)) g.vertices o is (cotree_no_path c g den) class).1 few
 
 -- ---- what may be taken back
 

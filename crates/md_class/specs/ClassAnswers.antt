@@ -1,12 +1,9 @@
 -- What comes of an edit of a session on a class of graphs, alone or in a group.
 -- Source: Golumbic, Trivially perfect graphs (1978), and Chvatal and Hammer, Aggregation of inequalities in integer programming (1977); the
 -- answers are this project's.
-use Rattle.std.specs.Prelude.{◌≡◌, ℕ, ◌+◌, List, [], ◌∷◌, ◌++◌, length, slice_get, Option, Some, None, Result, Ok, Err, ⊤}
+use Rattle.std.specs.Prelude.{◌≡◌, ℕ, ◌+◌, List, [], ◌∷◌, ◌++◌, length, slice_get, Bool, Option, Some, None, Result, Ok, Err, ⊤}
 use Rattle.md_graph.specs.declared.Memory.{Memory}
-use Rattle.md_graph.specs.PlainGraph.{PlainGraph, adjacent}
-use Rattle.md_tree.specs.Plain.{plain_option}
-use Rattle.md_tree.specs.StrongTrees.{IsTree}
-use Rattle.md_bar_tree.specs.declared.Bar.{Bar}
+use Rattle.md_graph.specs.PlainGraph.{PlainGraph}
 use Rattle.md_bar_tree.specs.declared.Class.{Class}
 use Rattle.md_script.specs.declared.edit.Edit.{Edit}
 use Rattle.md_script.specs.Edit.{reason_of, after}
@@ -20,11 +17,12 @@ use Rattle.md_class.specs.declared.items.Answer.{Answer}
 use Rattle.md_class.specs.declared.items.Answer.TheVariants.{Applied, Refused, Barred}
 use Rattle.md_class.specs.declared.items.Fit.{Fit}
 use Rattle.md_class.specs.declared.items.Fit.TheVariants as fits
+use Rattle.md_class.specs.ItemAnswers.{IsToldOf}
 
--- the tree of g, which has no bar of the class; or a bar of it
-abbrev pub IsFitOf : Class → PlainGraph → Fit → Type 0
-IsFitOf class g (fits.Tree t) = IsAllowedIn class g × IsTree (adjacent g) g.vertices (plain_option t)
-IsFitOf class g (fits.Bar bar) = IsBarOf class g bar
+-- what is told of g, which has no bar of the class; or a bar of it
+abbrev pub IsFitOf : Class → Bool → PlainGraph → Fit → Type 0
+IsFitOf class whole g (fits.Told told) = IsAllowedIn class g × IsToldOf whole g told
+IsFitOf class whole g (fits.Bar bar) = IsBarOf class g bar
 
 -- graph and history stay
 abbrev pub AreKept : PlainGraph → List (List Edit) → PlainGraph → List (List Edit) → Type 0
@@ -37,13 +35,13 @@ IsPushedTo g edit items left =
 
 -- what comes of an edit at g, the graph behind it, and the items: it is applied, or refused for the reason against it, or since the
 -- graph after it has a bar of the class; or memory is wanted, and all stays
-abbrev pub IsAnswered : Class → PlainGraph → Edit → List (List Edit) → Result Answer Memory → PlainGraph → List (List Edit) → Type 0
-IsAnswered class g edit items (Ok (Applied t)) next left =
-    (reason_of g edit ≡ None) × (next ≡ after g edit) × IsFitOf class next (fits.Tree t) × IsPushedTo g edit items left
-IsAnswered class g edit items (Ok (Refused reason)) next left = (reason_of g edit ≡ Some reason) × AreKept g items next left
-IsAnswered class g edit items (Ok (Barred bar)) next left =
+abbrev pub IsClassAnswered : Class → Bool → PlainGraph → Edit → List (List Edit) → Result Answer Memory → PlainGraph → List (List Edit) → Type 0
+IsClassAnswered class whole g edit items (Ok (Applied told)) next left =
+    (reason_of g edit ≡ None) × (next ≡ after g edit) × IsFitOf class whole next (fits.Told told) × IsPushedTo g edit items left
+IsClassAnswered class whole g edit items (Ok (Refused reason)) next left = (reason_of g edit ≡ Some reason) × AreKept g items next left
+IsClassAnswered class whole g edit items (Ok (Barred bar)) next left =
     (reason_of g edit ≡ None) × IsBarOf class (after g edit) bar × AreKept g items next left
-IsAnswered class g edit items (Err wanted) next left = AreKept g items next left
+IsClassAnswered class whole g edit items (Err wanted) next left = AreKept g items next left
 
 -- what comes of a group of which n edits were applied, and gave h: these are all; or the line is that of the next one, at which the group
 -- ends; or memory is wanted

@@ -1,3 +1,4 @@
 pub mod ClassAnswers
 pub mod ClassOpenings
 pub mod ClassSessions
+pub mod ItemAnswers

@@ -1,5 +1,5 @@
 //! Sessions on a class of graphs over items: an edit, or a group of edits.
-ghost use Rattle.std.specs.Prelude.{◌≡◌, ℕ, ◌+◌, ◌*◌, ◌<◌, ◌≤◌, List, [], ◌∷◌, length, vec_capacity, IfOk, IsErr};
+ghost use Rattle.std.specs.Prelude.{◌≡◌, ℕ, ◌+◌, ◌*◌, ◌<◌, ◌≤◌, true, List, [], ◌∷◌, length, vec_capacity, IfOk, IsErr};
 ghost use Rattle.std.specs.List.{All};
 ghost use Rattle.md_graph.specs.PlainGraph.{PlainGraph};
 ghost use Rattle.md_cotree.specs.Cotrees.{Denotes};
@@ -9,38 +9,37 @@ ghost use Rattle.md_script.specs.Edit.{HasNamesBelow};
 ghost use Rattle.md_script.specs.Pasts.{HasApplied};
 ghost use Rattle.md_script.specs.Histories.{HistoryFits};
 ghost use Rattle.md_report.specs.Lines.{path_bar};
-ghost use Rattle.md_bar.specs.ClassLines.{plain_class_line};
 ghost use Rattle.md_report.specs.Classes.{IsAllowedIn};
-ghost use Rattle.md_report.specs.Steps.{ItemStep};
-ghost use Rattle.md_report.specs.declared.line.SessionMode.TheVariants.{Of};
-ghost use Rattle.md_class.specs.ClassAnswers.{IsFitOf, IsAnswered, IsGroupEnd};
+ghost use Rattle.md_class.specs.ClassAnswers.{IsFitOf, IsClassAnswered, IsGroupEnd};
+ghost use Rattle.md_class.specs.ItemAnswers.{IsItemAnswer};
 
+use crate::answers::{ItemAnswer, Told, told_of};
 use md_bar::{Bar, BarKind, Class, ClassLine, bar_of};
+use md_bar_tree::has_few_inner;
 use md_cograph::{change, change_back, p4_behind, take_back_item};
 use md_cotree::Cotree;
 use md_graph::{GraphOf, Memory, Steps};
 use md_modules::P4;
 use md_report::Line;
 use md_script::{Edit, EditReason, Edits, HistoryOf, apply, inverse, reason};
-use md_tree::Tree;
 use std::alloc::Global;
 use std::sync::ledger::Ledger;
 
 // What comes of an edit.
 #[derive(Drop)]
 pub(crate) enum Answer {
-    // The graph is the one after the edit, with this tree.
-    Applied(Option<Tree>),
+    // The graph is the one after the edit, of which this is told.
+    Applied(Told),
     // There is a reason against the edit, and the graph stays.
     Refused(EditReason),
     // The graph after the edit has this bar, and the graph stays.
     Barred(Bar),
 }
 
-// The tree of a graph of a class, or a bar by which a graph is none.
+// What is told of a graph of a class, or a bar by which a graph is none.
 #[derive(Drop)]
 pub(crate) enum Fit {
-    Tree(Option<Tree>),
+    Told(Told),
     Bar(Bar),
 }
 
@@ -57,27 +56,29 @@ pub(crate) fn path_bar(p: P4) -> Bar
     }
 }
 
-// Answers an edit alone. Conditions: the graph is of the class and the cotree its own, there is
-// room for an item and an edit, and for a list of neighbours, the history fits, and the names in
-// the edit are below `64 * W`. Errors: want of memory; graph and history then stay.
+// Answers an edit alone, and tells the tree behind it whole or by its outline. Conditions: the
+// graph is of the class and the cotree its own, there is room for an item and an edit, and for a
+// list of neighbours, the history fits, and the names in the edit are below `64 * W`. Errors: want
+// of memory; graph and history then stay.
 pub(crate) fn answer_one<const W: usize, L: Ledger>(
     alloc: Global,
     graph: &mut GraphOf<W>,
     tree: &mut Cotree,
     class: Class,
+    whole: bool,
     near: &mut Vec<u32>,
     edit: &Edit,
     history: &mut HistoryOf<W>,
     steps: &mut Steps<L>,
-) -> Result<ClassLine, Memory>
+) -> Result<ItemAnswer, Memory>
     requires names { HasNamesBelow (64 * W) edit.now }
     requires allowed { IsAllowedIn class graph.old }
     requires denotes { Denotes tree.old graph.old }
     requires near { 64 * W ≤ vec_capacity near.old }
     requires room { 2 ≤ history.old.spare }
     requires fits { HistoryFits (64 * W) (IsAllowedIn class) graph.old history.old.items }
-    ensures step { IfOk result (λ line. ItemStep (64 * W) (Of class) graph.old history.old.items
-        (One edit.now) (plain_class_line line) graph.new history.new.items) }
+    ensures step { IfOk result (λ answer. IsItemAnswer (64 * W) class whole graph.old
+        history.old.items (One edit.now) answer graph.new history.new.items) }
     ensures allowed { IsAllowedIn class graph.new }
     ensures denotes { Denotes tree.new graph.new }
     ensures near { vec_capacity near.new ≡ vec_capacity near.old }
@@ -86,15 +87,15 @@ pub(crate) fn answer_one<const W: usize, L: Ledger>(
 {
     let _vertices = graph.vertices();
     history.open_item();
-    match step(alloc, graph, tree, class, near, edit, history, steps) {
-        Ok(Answer::Applied(new)) => Ok(ClassLine::Plain(Line::Applied(new))),
+    match step(alloc, graph, tree, class, whole, near, edit, history, steps) {
+        Ok(Answer::Applied(told)) => Ok(ItemAnswer::Applied(told)),
         Ok(Answer::Refused(reason)) => {
             history.drop_item();
-            Ok(ClassLine::Plain(Line::Refused(reason)))
+            Ok(ItemAnswer::Refused(ClassLine::Plain(Line::Refused(reason))))
         }
         Ok(Answer::Barred(bar)) => {
             history.drop_item();
-            Ok(ClassLine::Refused(bar))
+            Ok(ItemAnswer::Refused(ClassLine::Refused(bar)))
         }
         Err(wanted) => {
             history.drop_item();
@@ -103,27 +104,29 @@ pub(crate) fn answer_one<const W: usize, L: Ledger>(
     }
 }
 
-// Answers a group. Conditions: the graph is of the class and the cotree its own, there is room for
-// an item and the edits, and for a list of neighbours, the history fits, and the names in the edits
-// are below `64 * W`. Errors: want of memory; graph and history then stay.
+// Answers a group, and tells the tree behind it whole or by its outline. Conditions: the graph is
+// of the class and the cotree its own, there is room for an item and the edits, and for a list of
+// neighbours, the history fits, and the names in the edits are below `64 * W`. Errors: want of
+// memory; graph and history then stay.
 pub(crate) fn answer_group<const W: usize, L: Ledger>(
     alloc: Global,
     graph: &mut GraphOf<W>,
     tree: &mut Cotree,
     class: Class,
+    whole: bool,
     near: &mut Vec<u32>,
     edits: &Edits,
     history: &mut HistoryOf<W>,
     steps: &mut Steps<L>,
-) -> Result<ClassLine, Memory>
+) -> Result<ItemAnswer, Memory>
     requires names { All (HasNamesBelow (64 * W)) edits.now }
     requires allowed { IsAllowedIn class graph.old }
     requires denotes { Denotes tree.old graph.old }
     requires near { 64 * W ≤ vec_capacity near.old }
     requires room { length edits.now + 1 ≤ history.old.spare }
     requires fits { HistoryFits (64 * W) (IsAllowedIn class) graph.old history.old.items }
-    ensures step { IfOk result (λ line. ItemStep (64 * W) (Of class) graph.old history.old.items
-        (Group edits.now) (plain_class_line line) graph.new history.new.items) }
+    ensures step { IfOk result (λ answer. IsItemAnswer (64 * W) class whole graph.old
+        history.old.items (Group edits.now) answer graph.new history.new.items) }
     ensures allowed { IsAllowedIn class graph.new }
     ensures denotes { Denotes tree.new graph.new }
     ensures near { vec_capacity near.new ≡ vec_capacity near.old }
@@ -134,15 +137,15 @@ pub(crate) fn answer_group<const W: usize, L: Ledger>(
     history.open_item();
     match apply_edits(alloc, graph, tree, class, near, edits, history, steps) {
         Ok(None) => {
-            if let Ok(new) = tree.to_tree(alloc) {
-                return Ok(ClassLine::Plain(Line::Applied(new)));
+            if let Ok(told) = told_of(alloc, tree, whole) {
+                return Ok(ItemAnswer::Applied(told));
             }
             take_back_item(graph, tree, near, history, steps);
             Err(Memory)
         }
         Ok(Some(line)) => {
             take_back_item(graph, tree, near, history, steps);
-            Ok(line)
+            Ok(ItemAnswer::Refused(line))
         }
         Err(wanted) => {
             take_back_item(graph, tree, near, history, steps);
@@ -185,6 +188,7 @@ fn apply_edits<const W: usize, L: Ledger>(
             graph,
             tree,
             class,
+            false,
             near,
             edits.get(i),
             history,
@@ -200,15 +204,16 @@ fn apply_edits<const W: usize, L: Ledger>(
     Ok(None)
 }
 
-// Answers an edit, and pushes what takes it back to the last item of a history. Conditions: the
-// graph is of the class and the cotree its own, an item stands, there is room for an edit, and for
-// a list of neighbours, and the names in the edit are below `64 * W`. Errors: want of memory; graph
-// and history then stay.
+// Answers an edit, and pushes what takes it back to the last item of a history; the tree behind it
+// is told whole or by its outline. Conditions: the graph is of the class and the cotree its own, an
+// item stands, there is room for an edit, and for a list of neighbours, and the names in the edit
+// are below `64 * W`. Errors: want of memory; graph and history then stay.
 fn step<const W: usize, L: Ledger>(
     alloc: Global,
     graph: &mut GraphOf<W>,
     tree: &mut Cotree,
     class: Class,
+    whole: bool,
     near: &mut Vec<u32>,
     edit: &Edit,
     history: &mut HistoryOf<W>,
@@ -220,8 +225,8 @@ fn step<const W: usize, L: Ledger>(
     requires near { 64 * W ≤ vec_capacity near.old }
     requires item { 0 < length history.old.items }
     requires room { 1 ≤ history.old.spare }
-    ensures answer { IsAnswered class graph.old edit.now history.old.items result graph.new
-        history.new.items }
+    ensures answer { IsClassAnswered class whole graph.old edit.now history.old.items result
+        graph.new history.new.items }
     ensures denotes { Denotes tree.new graph.new }
     ensures near { vec_capacity near.new ≡ vec_capacity near.old }
     ensures spare { history.old.spare ≤ history.new.spare + 1 }
@@ -234,11 +239,11 @@ fn step<const W: usize, L: Ledger>(
         return Ok(Answer::Barred(path_bar(p4_behind(graph, edit))));
     }
     let past = inverse(graph, edit);
-    match tree_or_bar(alloc, tree, class) {
-        Ok(Fit::Tree(new)) => {
+    match fit_of(alloc, tree, class, whole) {
+        Ok(Fit::Told(told)) => {
             history.push(past);
             apply(graph, edit);
-            Ok(Answer::Applied(new))
+            Ok(Answer::Applied(told))
         }
         Ok(Fit::Bar(bar)) => {
             change_back(tree, &past, near, steps);
@@ -251,15 +256,37 @@ fn step<const W: usize, L: Ledger>(
     }
 }
 
+// What is told of the graph of a cotree, or a bar of the class in it. The tree is built where it is
+// asked for whole, or a node has too many inner children. Condition: there is such a graph. Errors:
+// want of memory.
+fn fit_of(alloc: Global, tree: &Cotree, class: Class, whole: bool) -> Result<Fit, Memory>
+    requires { (g : PlainGraph) × Denotes tree.now g }
+    ensures { IfOk result (λ fit. (g : PlainGraph) → Denotes tree.now g
+        → IsFitOf class whole g fit) }
+{
+    if whole {
+        return tree_or_bar(alloc, tree, class);
+    }
+    let parts = tree.outline(alloc)?;
+    if has_few_inner(alloc, &parts, class)? {
+        return Ok(Fit::Told(Told::Outline(parts)));
+    }
+    match tree_or_bar(alloc, tree, class)? {
+        Fit::Told(_) => Ok(Fit::Told(Told::Outline(parts))),
+        Fit::Bar(bar) => Ok(Fit::Bar(bar)),
+    }
+}
+
 // The tree of the graph of a cotree, or a bar of the class in it. Condition: there is such a graph.
 // Errors: want of memory.
 fn tree_or_bar(alloc: Global, tree: &Cotree, class: Class) -> Result<Fit, Memory>
     requires { (g : PlainGraph) × Denotes tree.now g }
-    ensures { IfOk result (λ fit. (g : PlainGraph) → Denotes tree.now g → IsFitOf class g fit) }
+    ensures { IfOk result (λ fit. (g : PlainGraph) → Denotes tree.now g
+        → IsFitOf class true g fit) }
 {
     let new = tree.to_tree(alloc)?;
     match bar_of(&new, class) {
         Some(bar) => Ok(Fit::Bar(bar)),
-        None => Ok(Fit::Tree(new)),
+        None => Ok(Fit::Told(Told::Tree(new))),
     }
 }

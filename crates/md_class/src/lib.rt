@@ -2,8 +2,10 @@
 //! under edits.
 #![tactic(auto)]
 
+mod answers;
 mod items;
 mod session;
 mod undoing;
 
+pub use answers::ClassAnswer;
 pub use session::{ClassOpened, ClassOpenedOf, ClassSession, ClassSessionOf};

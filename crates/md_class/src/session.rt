@@ -1,9 +1,11 @@
 //! The sessions: opened on a graph of the class, and asked for a tree or to answer an item.
-ghost use Rattle.std.specs.Prelude.{◌≡◌, ◌*◌, ◌<◌, ◌≤◌, IfOk, IsErr};
+ghost use Rattle.std.specs.Prelude.{◌≡◌, ◌*◌, ◌<◌, ◌≤◌, Option, IfOk, IsErr};
 ghost use Rattle.md_graph.specs.declared.TheConstants.{WORDS};
 ghost use Rattle.md_graph.specs.PlainGraph.{adjacent};
 ghost use Rattle.md_tree.specs.Plain.{plain_option};
 ghost use Rattle.md_tree.specs.StrongTrees.{IsTree};
+ghost use Rattle.md_tree.specs.Trees.{PlainTree};
+ghost use Rattle.md_outline.specs.Outlines.{outline_option};
 ghost use Rattle.md_script.specs.Histories.{HistoryFits};
 ghost use Rattle.md_script.specs.Items.{HasItemNamesBelow, room_for};
 ghost use Rattle.md_bar.specs.ClassLines.{plain_class_line};
@@ -11,7 +13,9 @@ ghost use Rattle.md_report.specs.Classes.{IsAllowedIn};
 ghost use Rattle.md_report.specs.Steps.{ItemStep};
 ghost use Rattle.md_report.specs.declared.line.SessionMode.TheVariants.{Of};
 ghost use Rattle.md_class.specs.ClassOpenings.{IsClassOpened};
+ghost use Rattle.md_class.specs.ItemAnswers.{IsItemAnswer, IsClassAnswer};
 
+use crate::answers::{ClassAnswer, ItemAnswer, Told};
 use crate::items::{answer_group, answer_one, path_bar};
 use crate::undoing::answer_undo;
 use md_bar::{Bar, Class, ClassLine, bar_of};
@@ -19,8 +23,10 @@ use md_cograph::any_p4;
 use md_cotree::{Cotree, from_tree};
 use md_decompose::decompose;
 use md_graph::{GraphOf, Memory, Steps, WORDS};
+use md_outline::OutlinePart;
+use md_report::Line;
 use md_script::{History, HistoryOf, Item};
-use md_tree::{Tree, has_no_prime};
+use md_tree::{Kind, Tree, has_no_prime};
 use std::alloc::Global;
 use std::marker::{Brand, Model};
 use std::sync::ledger::{Blank, Ledger};
@@ -104,6 +110,23 @@ impl<const W: usize> ClassSessionOf<W> {
         self.tree.to_tree(alloc)
     }
 
+    /// The outline of that tree, without parts exactly where the graph has no vertices: children in
+    /// ascending order of their least names. No tree is built. Errors: want of memory.
+    pub fn outline(&self, alloc: Global) -> Result<Vec<OutlinePart<Kind>>, Memory>
+        ensures outline { IfOk result (λ parts. (t : Option PlainTree)
+            × IsTree (adjacent self.now.graph) self.now.graph.vertices t
+            × (parts.items ≡ outline_option t)) }
+    {
+        self.tree.outline(alloc)
+    }
+
+    /// The graph.
+    pub fn graph(&self) -> &GraphOf<W>
+        ensures value { result.now ≡ self.now.graph }
+    {
+        &self.graph
+    }
+
     /// Answers an item as `apply_item` does, on rows of any width, with a counter of steps, of which
     /// no bound is claimed. Conditions: the names in the item are below `64 * W`, the history has
     /// room for it, and fits. Errors: want of memory; session and history then stay.
@@ -124,15 +147,69 @@ impl<const W: usize> ClassSessionOf<W> {
         ensures stays { IsErr result → self.new ≡ self.old }
         ensures kept { IsErr result → history.new.items ≡ history.old.items }
     {
+        match self.answer(alloc, item, true, history, steps)? {
+            ItemAnswer::Applied(Told::Tree(tree)) => Ok(ClassLine::Plain(Line::Applied(tree))),
+            ItemAnswer::Applied(Told::Outline(_)) => unreachable!(),
+            ItemAnswer::Refused(line) => Ok(line),
+        }
+    }
+
+    /// The same for callers that write the line themselves: where the item is applied the answer
+    /// has the outline of the tree in place of it, and no tree is built unless a bar is looked for.
+    pub fn answer_item<L: Ledger>(
+        &mut self,
+        alloc: Global,
+        item: &Item,
+        history: &mut HistoryOf<W>,
+        steps: &mut Steps<L>,
+    ) -> Result<ClassAnswer, Memory>
+        requires names { HasItemNamesBelow (64 * W) item.now }
+        requires room { room_for item.now ≤ history.old.spare }
+        requires fits { HistoryFits (64 * W) (IsAllowedIn self.old.class) self.old.graph
+            history.old.items }
+        ensures step { IfOk result (λ answer. IsClassAnswer (64 * W) self.old.class self.old.graph
+            history.old.items item.now answer self.new.graph history.new.items) }
+        ensures class { self.new.class ≡ self.old.class }
+        ensures stays { IsErr result → self.new ≡ self.old }
+        ensures kept { IsErr result → history.new.items ≡ history.old.items }
+    {
+        match self.answer(alloc, item, false, history, steps)? {
+            ItemAnswer::Applied(Told::Outline(parts)) => Ok(ClassAnswer::Applied(parts)),
+            ItemAnswer::Applied(Told::Tree(_)) => unreachable!(),
+            ItemAnswer::Refused(line) => Ok(ClassAnswer::Refused(line)),
+        }
+    }
+
+    // Answers an item, and tells the tree behind it whole or by its outline. Conditions: the names
+    // in the item are below `64 * W`, the history has room for it, and fits. Errors: want of
+    // memory; session and history then stay.
+    fn answer<L: Ledger>(
+        &mut self,
+        alloc: Global,
+        item: &Item,
+        whole: bool,
+        history: &mut HistoryOf<W>,
+        steps: &mut Steps<L>,
+    ) -> Result<ItemAnswer, Memory>
+        requires names { HasItemNamesBelow (64 * W) item.now }
+        requires room { room_for item.now ≤ history.old.spare }
+        requires fits { HistoryFits (64 * W) (IsAllowedIn self.old.class) self.old.graph
+            history.old.items }
+        ensures step { IfOk result (λ answer. IsItemAnswer (64 * W) self.old.class whole
+            self.old.graph history.old.items item.now answer self.new.graph history.new.items) }
+        ensures class { self.new.class ≡ self.old.class }
+        ensures stays { IsErr result → self.new ≡ self.old }
+        ensures kept { IsErr result → history.new.items ≡ history.old.items }
+    {
         let (graph, tree, near) = (&mut self.graph, &mut self.tree, &mut self.near);
         match item {
-            Item::One(edit) => {
-                answer_one(alloc, graph, tree, self.class, near, edit, history, steps)
-            }
-            Item::Group(edits) => {
-                answer_group(alloc, graph, tree, self.class, near, edits, history, steps)
-            }
-            Item::Undo => answer_undo(alloc, graph, tree, near, history, steps),
+            Item::One(edit) => answer_one(
+                alloc, graph, tree, self.class, whole, near, edit, history, steps,
+            ),
+            Item::Group(edits) => answer_group(
+                alloc, graph, tree, self.class, whole, near, edits, history, steps,
+            ),
+            Item::Undo => answer_undo(alloc, whole, graph, tree, near, history, steps),
         }
     }
 }
@@ -160,13 +237,13 @@ impl ClassSession {
         ensures stays { IsErr result → self.new ≡ self.old }
         ensures kept { IsErr result → history.new.items ≡ history.old.items }
     {
-        answer_item::<Brand>(self, alloc, item, history, Blank::new(1))
+        answer_uncounted::<Brand>(self, alloc, item, history, Blank::new(1))
     }
 }
 
 // The answer to an item; nobody reads the steps. Conditions: the names in the item are names, the
 // history has room for it, and fits. Errors: want of memory; session and history then stay.
-fn answer_item<L: Ledger>(
+fn answer_uncounted<L: Ledger>(
     session: &mut ClassSession,
     alloc: Global,
     item: &Item,

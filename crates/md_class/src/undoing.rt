@@ -1,8 +1,5 @@
 //! Undos of sessions on a class of graphs.
 ghost use Rattle.std.specs.Prelude.{◌≡◌, ◌*◌, ◌≤◌, List, [], ◌∷◌, length, vec_capacity, IfOk, IsErr};
-ghost use Rattle.md_graph.specs.PlainGraph.{adjacent};
-ghost use Rattle.md_tree.specs.Plain.{plain_option};
-ghost use Rattle.md_tree.specs.StrongTrees.{IsTree};
 ghost use Rattle.md_bar_tree.specs.declared.Class as bars;
 ghost use Rattle.md_cotree.specs.Cotrees.{Denotes};
 ghost use Rattle.md_script.specs.declared.edit.Edit as script;
@@ -10,38 +7,37 @@ ghost use Rattle.md_script.specs.declared.item.Item.TheVariants.{Undo};
 ghost use Rattle.md_script.specs.Pasts.{taken_back, MayBack};
 ghost use Rattle.md_script.specs.Histories.{HistoryFits};
 ghost use Rattle.md_report.specs.Cographs.{IsCograph};
-ghost use Rattle.md_bar.specs.ClassLines.{plain_class_line};
 ghost use Rattle.md_report.specs.Classes.{IsAllowedIn};
-ghost use Rattle.md_report.specs.Steps.{ItemStep};
-ghost use Rattle.md_report.specs.declared.line.SessionMode.TheVariants.{Of};
+ghost use Rattle.md_class.specs.ItemAnswers.{IsToldOf, IsItemAnswer};
 
+use crate::answers::{ItemAnswer, Told, told_of};
 use md_bar::ClassLine;
 use md_cograph::{change_back, take_back_item};
 use md_cotree::Cotree;
 use md_graph::{GraphOf, Memory, Steps};
 use md_report::Line;
 use md_script::{HistoryOf, again, take_back};
-use md_tree::Tree;
 use std::alloc::Global;
 use std::sync::ledger::Ledger;
 
-// Answers an undo, which asks for no bar: the graph before is of the class. Conditions: the cotree
-// is that of the graph, there is room for a list of neighbours, and the history fits. Errors: want
-// of memory; graph and history then stay.
+// Answers an undo, which asks for no bar: the graph before is of the class. Its tree is told whole
+// or by its outline. Conditions: the cotree is that of the graph, there is room for a list of
+// neighbours, and the history fits. Errors: want of memory; graph and history then stay.
 pub(crate) fn answer_undo<const W: usize, L: Ledger>(
     alloc: Global,
+    whole: bool,
     graph: &mut GraphOf<W>,
     tree: &mut Cotree,
     near: &mut Vec<u32>,
     history: &mut HistoryOf<W>,
     steps: &mut Steps<L>,
-) -> Result<ClassLine, Memory>
+) -> Result<ItemAnswer, Memory>
     requires denotes { Denotes tree.old graph.old }
     requires near { 64 * W ≤ vec_capacity near.old }
     requires fits { HistoryFits (64 * W) IsCograph graph.old history.old.items }
-    ensures step { IfOk result (λ line. (class : bars.Class) →
+    ensures step { IfOk result (λ answer. (class : bars.Class) →
         HistoryFits (64 * W) (IsAllowedIn class) graph.old history.old.items →
-        ItemStep (64 * W) (Of class) graph.old history.old.items Undo (plain_class_line line) graph.new
+        IsItemAnswer (64 * W) class whole graph.old history.old.items Undo answer graph.new
         history.new.items) }
     ensures allowed { (class : bars.Class) → IsAllowedIn class graph.old →
         HistoryFits (64 * W) (IsAllowedIn class) graph.old history.old.items →
@@ -52,33 +48,34 @@ pub(crate) fn answer_undo<const W: usize, L: Ledger>(
     ensures kept { IsErr result → history.new.items ≡ history.old.items }
 {
     if history.items() == 0 {
-        return Ok(ClassLine::Plain(Line::NothingToUndo));
+        return Ok(ItemAnswer::Refused(ClassLine::Plain(Line::NothingToUndo)));
     }
-    let before = tree_before(alloc, graph, tree, near, history, steps)?;
+    let before = told_before(alloc, whole, graph, tree, near, history, steps)?;
     take_back_item(graph, tree, near, history, steps);
-    Ok(ClassLine::Plain(Line::Applied(before)))
+    Ok(ItemAnswer::Applied(before))
 }
 
-// The tree of the graph before the last item; the graph stays, and so does the graph of the cotree.
-// All memory that an undo takes is taken here, before anything leaves the history. Conditions: the
-// cotree is that of the graph, there is room for a list of neighbours, an item stands, and its
-// edits can be taken back, the last one first, over cographs. Errors: want of memory.
-fn tree_before<const W: usize, L: Ledger>(
+// What is told of the graph before the last item; the graph stays, and so does the graph of the
+// cotree. All memory that an undo takes is taken here, before anything leaves the history.
+// Conditions: the cotree is that of the graph, there is room for a list of neighbours, an item
+// stands, and its edits can be taken back, the last one first, over cographs. Errors: want of
+// memory.
+fn told_before<const W: usize, L: Ledger>(
     alloc: Global,
+    whole: bool,
     graph: &mut GraphOf<W>,
     tree: &mut Cotree,
     near: &mut Vec<u32>,
     history: &HistoryOf<W>,
     steps: &mut Steps<L>,
-) -> Result<Option<Tree>, Memory>
+) -> Result<Told, Memory>
     requires denotes { Denotes tree.old graph.old }
     requires near { 64 * W ≤ vec_capacity near.old }
     requires item { (last : List script.Edit) × (others : List (List script.Edit)) ×
         (history.now.items ≡ last ∷ others) × MayBack (64 * W) IsCograph graph.old last }
-    ensures tree { IfOk result (λ tree.
+    ensures told { IfOk result (λ told.
         (last : List script.Edit) (others : List (List script.Edit)) →
-        history.now.items ≡ last ∷ others → IsTree (adjacent (taken_back graph.old last))
-        (taken_back graph.old last).vertices (plain_option tree)) }
+        history.now.items ≡ last ∷ others → IsToldOf whole (taken_back graph.old last) told) }
     ensures stays { graph.new ≡ graph.old }
     ensures denotes { Denotes tree.new graph.new }
     ensures near { vec_capacity near.new ≡ vec_capacity near.old }
@@ -88,7 +85,7 @@ fn tree_before<const W: usize, L: Ledger>(
     redo.open_item();
     redo.reserve(alloc, history.last_len())?;
     back_through(graph, tree, near, history, &mut redo, steps);
-    let before = tree.to_tree(alloc);
+    let before = told_of(alloc, tree, whole);
     take_back_item(graph, tree, near, &mut redo, steps);
     before
 }

@@ -35,9 +35,7 @@ pub fn orient_classes<const W: usize>(
         trail: ForcingTree::new(alloc),
     };
     for u in 0..explored.seen.size() {
-        let (next, stopped) = orient_classes_at(alloc, graph, side, u, explored)?;
-        explored = next;
-        if stopped {
+        if orient_classes_at(graph, side, u, &mut explored)? {
             return Ok(ClassOrChosen::Stopped(explored.trail));
         }
     }
@@ -47,57 +45,52 @@ pub fn orient_classes<const W: usize>(
 // Walks through the edges whose smaller end is `u`. Says whether it stopped, at the class of the
 // trail; the seen arcs are the chosen ones.
 fn orient_classes_at<const W: usize>(
-    alloc: Global,
     graph: &GraphOf<W>,
     side: Side,
     u: u32,
-    explored: Explored<W>,
-) -> Result<(Explored<W>, bool), Memory>
+    explored: &mut Explored<W>,
+) -> Result<bool, Memory>
     requires name { u < 64 * W }
-    requires size { u < length explored.seen }
-    requires room { (v : ℕ) → Has graph.now.vertices v → v < length explored.seen }
-    requires walked { IsWalked (adjacent_on side graph.now) u explored.seen }
-    ensures stopped { IfOk result (λ r. r.1 ≡ true
-        → IsStopped (adjacent_on side graph.now) r.0.trail) }
-    ensures walked { IfOk result (λ r. r.1 ≡ false
-        → IsWalked (adjacent_on side graph.now) (u + 1) r.0.seen) }
-    ensures room { IfOk result (λ r. length r.0.seen ≡ length explored.entry.seen) }
+    requires size { u < length explored.old.seen }
+    requires room { (v : ℕ) → Has graph.now.vertices v → v < length explored.old.seen }
+    requires walked { IsWalked (adjacent_on side graph.now) u explored.old.seen }
+    ensures stopped { IfOk result (λ stopped. stopped ≡ true
+        → IsStopped (adjacent_on side graph.now) explored.new.trail) }
+    ensures walked { IfOk result (λ stopped. stopped ≡ false
+        → IsWalked (adjacent_on side graph.now) (u + 1) explored.new.seen) }
+    ensures room { length explored.new.seen ≡ length explored.old.seen }
 {
     let _vertices = graph.vertices();
     let left = unoriented_neighbours(graph, side, u, &explored.seen);
-    let mut explored = explored;
     for v in left.members() {
         let first = Arc { tail: u, head: v };
-        let (next, stopped) = orient_class_of(alloc, graph, side, first, explored)?;
-        explored = next;
-        if stopped {
-            return Ok((explored, true));
+        if orient_class_of(graph, side, first, explored)? {
+            return Ok(true);
         }
     }
-    Ok((explored, false))
+    Ok(false)
 }
 
 // Explores the class of an arc, unless its edge has a chosen arc. Says whether the class holds the
 // reverse of the arc. Condition: the edges that are less are walked through.
 fn orient_class_of<const W: usize>(
-    alloc: Global,
     graph: &GraphOf<W>,
     side: Side,
     first: Arc,
-    explored: Explored<W>,
-) -> Result<(Explored<W>, bool), Memory>
+    explored: &mut Explored<W>,
+) -> Result<bool, Memory>
     requires is_arc { IsArc (adjacent_on side graph.now) first }
-    requires room { (v : ℕ) → Has graph.now.vertices v → v < length explored.seen }
-    requires walked { IsWalked (adjacent_on side graph.now) first.tail explored.seen }
+    requires room { (v : ℕ) → Has graph.now.vertices v → v < length explored.old.seen }
+    requires walked { IsWalked (adjacent_on side graph.now) first.tail explored.old.seen }
     requires passed { (y : ℕ) → adjacent_on side graph.now first.tail y ≡ true → y < first.head
-        → HasArcOf explored.seen first.tail y }
-    ensures stopped { IfOk result (λ r. r.1 ≡ true
-        → IsStopped (adjacent_on side graph.now) r.0.trail) }
-    ensures walked { IfOk result (λ r. r.1 ≡ false
-        → IsWalked (adjacent_on side graph.now) first.tail r.0.seen) }
-    ensures joined { IfOk result (λ r. r.1 ≡ false
-        → JoinsAlso first.tail first.head explored.entry.seen r.0.seen) }
-    ensures room { IfOk result (λ r. length r.0.seen ≡ length explored.entry.seen) }
+        → HasArcOf explored.old.seen first.tail y }
+    ensures stopped { IfOk result (λ stopped. stopped ≡ true
+        → IsStopped (adjacent_on side graph.now) explored.new.trail) }
+    ensures walked { IfOk result (λ stopped. stopped ≡ false
+        → IsWalked (adjacent_on side graph.now) first.tail explored.new.seen) }
+    ensures joined { IfOk result (λ stopped. stopped ≡ false
+        → JoinsAlso first.tail first.head explored.old.seen explored.new.seen) }
+    ensures room { length explored.new.seen ≡ length explored.old.seen }
 {
     let _vertices = graph.vertices();
     let back = Arc {
@@ -105,11 +98,11 @@ fn orient_class_of<const W: usize>(
         head: first.tail,
     };
     if explored.seen.has(first) || explored.seen.has(back) {
-        return Ok((explored, false));
+        return Ok(false);
     }
-    let explored = explore(alloc, graph, side, first, explored)?;
+    explore(graph, side, first, explored)?;
     let stopped = explored.seen.has(back);
-    Ok((explored, stopped))
+    Ok(stopped)
 }
 
 // The names that `u` is adjacent to on this side by edges of which no arc is in the set.

@@ -14,6 +14,7 @@ use Rattle.md_tree.proofs.Folding.{count_row}
 use Rattle.md_outline.specs.declared.outline.OutlinePart.{OutlinePart}
 use Rattle.md_outline.specs.declared.outline.OutlinePart.TheVariants.{Name, Node}
 use Rattle.md_outline.specs.Outlines.{outline_of, row_outline}
+use Rattle.md_outline.proofs.TreeOutlines.{map_reverse, outline-append}
 use Rattle.md_cotree.specs.declared.outline.Entry.{Entry}
 use Rattle.md_cotree.specs.Entries.{below_part, tree_over, entry_tree, entry_keyed, trees_after, table_trees, PartFits, FitsIn, AreEntryTrees, entry_least, first_least, IsNodeEntryPut, IsEntryPut, stack_outline, IsOutlineAt}
 use Rattle.md_cotree.specs.Orders.{part_at, tree_of, first_key, AreFalling, IsPutOver, IsPartPut, HasBelow, HasTree}
@@ -54,11 +55,6 @@ node_entry_put k count below stack table fallen stack' table' first at some few 
 same_map : {A B : Type 0} (P : A → Type 0) (f g : A → B) → ((x : A) → P x → f x ≡ g x) → (xs : List A) → All P xs → map f xs ≡ map g xs
 same_map P f g same [] all = refl
 same_map P f g same (x ∷ xs) all = (λ i. same x (All-head P x xs all) i ∷ same_map P f g same xs (All-tail P x xs all) i)
-
-map_reversed : {A B : Type 0} (f : A → B) (xs : List A) → map f (reverse xs) ≡ reverse (map f xs)
-map_reversed f [] = refl
-map_reversed f (x ∷ xs) =
-    ap (map f) (reverse-append (x ∷ []) xs) ∙ map-append f (reverse xs) (x ∷ []) ∙ ap (λ ys. ys ++ f x ∷ []) (map_reversed f xs) ∙ sym (reverse-append (f x ∷ []) (map f xs))
 
 trees_keyed : (trees : List PlainTree) (es : List Entry) → map (entry_tree trees) es ≡ map tree_of (map (entry_keyed trees) es)
 trees_keyed trees [] = refl
@@ -167,7 +163,7 @@ module _ (trees : List PlainTree) (table stack : List Entry) (so : AreEntryTrees
     entry_is =
         ap (λ ts. node k (row (reverse ts)) []) (ap (take n) (drop_at trees added (length table) (sym trees_long)) ∙ take_all n added (omega (arith, added_long)))
         ∙ ap (λ ts. node k (row ts) [])
-        (ap reverse (map_reversed (entry_tree trees) is.sorted) ∙ reverse-reverse (map (entry_tree trees) is.sorted) ∙ trees_keyed trees is.sorted)
+        (ap reverse (map_reverse (entry_tree trees) is.sorted) ∙ reverse-reverse (map (entry_tree trees) is.sorted) ∙ trees_keyed trees is.sorted)
 
     at : length (map (entry_keyed trees) stack) - n ≡ length stack - n
     at = ap (λ m. m - n) (length-map stack (entry_keyed trees))
@@ -231,10 +227,6 @@ put_long table stack (inner_part k n ps) stack' table' has put =
 
 -- ---- the outline, read off
 
-outline_both : (xs ys : List PlainTree) → row_outline (row (xs ++ ys)) ≡ row_outline (row xs) ++ row_outline (row ys)
-outline_both [] ys = refl
-outline_both (x ∷ xs) ys = ap (λ ps. outline_of x ++ ps) (outline_both xs ys) ∙ sym (append_assoc (outline_of x) (row_outline (row xs)) (row_outline (row ys)))
-
 -- the parts so far and the outlines of what waits are the whole
 pub record IsReadOff (trees : List PlainTree) (table : List Entry) (whole parts : List (OutlinePart Kind)) (waiting : List Entry) : Type 0 where
   pub fits : All (FitsIn (length table)) waiting
@@ -285,7 +277,7 @@ module _ (trees : List PlainTree) (table stack : List Entry) (so : AreEntryTrees
               (λ i. push i ++ stack_outline trees (below i)) ∙ append_assoc parts (next.part ∷ []) (stack_outline trees (popped ++ kids))
               ∙ ap (λ ts. parts ++ next.part ∷ row_outline (row (reverse ts))) (map-append (entry_tree trees) popped kids)
               ∙ ap (λ ts. parts ++ next.part ∷ row_outline (row ts)) (reverse-append (map (entry_tree trees) popped) (map (entry_tree trees) kids))
-              ∙ ap (λ ps. parts ++ next.part ∷ ps) (outline_both (reverse (map (entry_tree trees) kids)) (reverse (map (entry_tree trees) popped)))
+              ∙ ap (λ ps. parts ++ next.part ∷ ps) (outline-append (reverse (map (entry_tree trees) kids)) (reverse (map (entry_tree trees) popped)))
               ∙ ap (λ ps. parts ++ (ps ++ stack_outline trees popped)) (sym (outline_is next both.1))
               ∙ ap (λ ps. parts ++ ps) (sym last_first) ∙ ap (λ es. parts ++ stack_outline trees es) (sym pop) ∙ is.goes_on;
         }

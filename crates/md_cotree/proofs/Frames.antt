@@ -73,28 +73,9 @@ module _ (l m : Links) where
 
 -- ---- rows
 
-loose_both : (l : Links) (ts us : PlaceTrees) → StandLoose l ts → StandLoose l us → StandLoose l (row_append ts us)
-loose_both l no_more us a b = b
-loose_both l (then t ts) us a b = (a.0, a.1, loose_both l ts us a.2 b)
-
-loose_first : (l : Links) (ts us : PlaceTrees) → StandLoose l (row_append ts us) → StandLoose l ts
-loose_first l no_more us a = tt
-loose_first l (then t ts) us a = (a.0, a.1, loose_first l ts us a.2)
-
-loose_rest : (l : Links) (ts us : PlaceTrees) → StandLoose l (row_append ts us) → StandLoose l us
-loose_rest l no_more us a = a
-loose_rest l (then t ts) us a = loose_rest l ts us a.2
-
 below_both : (l : Links) (r : ℕ) (ts us : PlaceTrees) → StandsBelow l r ts → StandsBelow l r us → StandsBelow l r (row_append ts us)
 below_both l r no_more us a b = b
 below_both l r (then t ts) us a b = (a.0, a.1, below_both l r ts us a.2 b)
-
--- the first tree becomes the last
-pub fits_last : (l : Links) (t : PlaceTree) (ts : PlaceTrees) → FillsLists l (then t ts) → FillsLists l (row_append ts (then t no_more))
-fits_last l t ts fits = record {
-  stand = loose_both l ts (then t no_more) fits.stand.2 (fits.stand.0, fits.stand.1, tt);
-  each = λ p. let e = times-joined p ts (then t no_more) in let f = fits.each p in omega arith;
-}
 
 -- each place of the trees is live, and stands in them once
 pub place_live : (l : Links) (ts : PlaceTrees) → FillsLists l ts → (p : ℕ) → 0 < times_among p ts → IsLive l p
@@ -156,15 +137,15 @@ module _ (l : Links) (ok : AreLinks l) (p : ℕ) (free : kind_at l p ≡ None) (
 
 -- ---- a tree becomes the last child of another
 
-module _ (l : Links) (ok : AreLinks l) (q : ℕ) (k : Bool) (done ts left : PlaceTrees) (t : PlaceTree) (fits : FillsLists l (then (inner q k done) (row_append ts (then t left)))) where
+module _ (l : Links) (ok : AreLinks l) (q : ℕ) (k : Bool) (done left : PlaceTrees) (t : PlaceTree) (fits : FillsLists l (then (inner q k done) (then t left))) where
   abbrev all : PlaceTrees
-  all = then (inner q k done) (row_append ts (then t left))
+  all = then (inner q k done) (then t left)
 
   abbrev c : ℕ
   c = place_of t
 
-  parts : (p : ℕ) → times_among p all ≡ (cond (q == p) 1 0 + times_among p done) + (times_among p ts + (times_in p t + times_among p left))
-  parts p = let e = times-joined p ts (then t left) in omega arith
+  parts : (p : ℕ) → times_among p all ≡ (cond (q == p) 1 0 + times_among p done) + (times_in p t + times_among p left)
+  parts p = refl
 
   at_parent : 1 ≤ times_among q all
   at_parent = let e = parts q in let one = hit q q refl in omega arith
@@ -179,21 +160,21 @@ module _ (l : Links) (ok : AreLinks l) (q : ℕ) (k : Bool) (done ts left : Plac
   attach_child = place_live l all fits c at_child
 
   pub attach_loose : parent_at l c ≡ None
-  attach_loose = (loose_rest l ts (then t left) fits.stand.2).0
+  attach_loose = fits.stand.2.0
 
   -- the parent stands in none of the other trees, and the child in none but its own
-  once_parent : (times_among q done ≡ 0) × (times_among q ts ≡ 0) × (times_in q t ≡ 0) × (times_among q left ≡ 0)
+  once_parent : (times_among q done ≡ 0) × (times_in q t ≡ 0) × (times_among q left ≡ 0)
   once_parent =
       let e = parts q in let one = hit q q refl in let low = place_once l all fits q in
-      (omega arith, omega arith, omega arith, omega arith)
+      (omega arith, omega arith, omega arith)
 
-  once_child : (times_among c done ≡ 0) × (times_among c ts ≡ 0) × (times_under c t ≡ 0) × (times_among c left ≡ 0)
+  once_child : (times_among c done ≡ 0) × (times_under c t ≡ 0) × (times_among c left ≡ 0)
   once_child =
       let e = parts c in let one = root_in t in let low = place_once l all fits c in
-      (omega arith, omega arith, omega arith, omega arith)
+      (omega arith, omega arith, omega arith)
 
   pub attach_differ : q ≢ c
-  attach_differ same = let none = once_parent.2 in let one = root_in t in let e = ap (λ z. times_in z t) same in omega arith
+  attach_differ same = let none = once_parent.1 in let one = root_in t in let e = ap (λ z. times_in z t) same in omega arith
 
   abbrev m : Links
   m = attached l q c
@@ -207,7 +188,7 @@ module _ (l : Links) (ok : AreLinks l) (q : ℕ) (k : Bool) (done ts left : Plac
   apart : (f : ℕ → ℕ) (z x : ℕ) → f z ≡ 0 → 0 < f x → x ≢ z
   apart f z x none some same = let e = ap f same in omega arith
 
-  pub fits_attached : FillsLists m (then (inner q k (row_append done (then t no_more))) (row_append ts left))
+  pub fits_attached : FillsLists m (then (inner q k (row_append done (then t no_more))) left)
   fits_attached = record {
     stand = (
       attached_other l ok q c attach_parent attach_child attach_loose q attach_differ ∙ fits.stand.0,
@@ -217,16 +198,11 @@ module _ (l : Links) (ok : AreLinks l) (q : ℕ) (k : Bool) (done ts left : Plac
             ∙ ap (λ xs. xs ++ c ∷ []) fits.stand.1.1 ∙ sym (roots-joined done (then t no_more)),
         below_both m q done (then t no_more)
             (still_below l m q done (λ x some. other_same x (apart (λ z. times_among z done) q x once_parent.0 some)) (λ x some. attached_other l ok q c attach_parent attach_child attach_loose x (apart (λ z. times_among z done) c x once_child.0 some)) fits.stand.1.2)
-            (attached_child l ok q c attach_parent attach_child attach_loose, still_in l m t (λ x some. other_same x (apart (λ z. times_in z t) q x once_parent.2 some)) (λ x some. attached_other l ok q c attach_parent attach_child attach_loose x (apart (λ z. times_under z t) c x once_child.2 some)) child.1, tt),
+            (attached_child l ok q c attach_parent attach_child attach_loose, still_in l m t (λ x some. other_same x (apart (λ z. times_in z t) q x once_parent.1 some)) (λ x some. attached_other l ok q c attach_parent attach_child attach_loose x (apart (λ z. times_under z t) c x once_child.1 some)) fits.stand.2.1, tt),
       ),
-      loose_both m ts left
-          (still_loose l m ts (λ x some. other_same x (apart (λ z. times_among z ts) q x once_parent.1 some)) (λ x some. attached_other l ok q c attach_parent attach_child attach_loose x (apart (λ z. times_among z ts) c x once_child.1 some)) (loose_first l ts (then t left) fits.stand.2))
-          (still_loose l m left (λ x some. other_same x (apart (λ z. times_among z left) q x once_parent.3 some)) (λ x some. attached_other l ok q c attach_parent attach_child attach_loose x (apart (λ z. times_among z left) c x once_child.3 some)) child.2),
+      still_loose l m left (λ x some. other_same x (apart (λ z. times_among z left) q x once_parent.2 some)) (λ x some. attached_other l ok q c attach_parent attach_child attach_loose x (apart (λ z. times_among z left) c x once_child.2 some)) fits.stand.2.2,
     );
     each = λ p.
-        let e = parts p in let f = fits.each p in let a = times-joined p done (then t no_more) in let b = times-joined p ts left in
+        let e = parts p in let f = fits.each p in let a = times-joined p done (then t no_more) in
         omega arith;
   }
-    where
-      child : (parent_at l c ≡ None) × Stands l t × StandLoose l left
-      child = loose_rest l ts (then t left) fits.stand.2

@@ -9,7 +9,9 @@ pub mod Frames
 pub mod Attaching
 pub mod Growing
 pub mod Naming
+pub mod OutlineTrees
 pub mod Rooted
+pub mod Planted
 pub mod Ways
 pub mod Meeting
 pub mod Leaves

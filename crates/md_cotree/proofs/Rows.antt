@@ -1,6 +1,5 @@
 -- Rows of trees over places, one behind the other.
-use Rattle.std.proofs.Common.{◌≡◌, ℕ, ◌+◌, ◌≤◌, ◌∷◌, ◌++◌, length, refl, ap, inl, inr, arith}
-use Rattle.std.proofs.lemmas.Bool.{cases_lt}
+use Rattle.std.proofs.Common.{◌≡◌, ℕ, zero, suc, ◌+◌, ◌≤◌, ◌∷◌, ◌++◌, length, refl, ap, arith}
 use Rattle.md_tree.specs.Trees.{one_more, row}
 use Rattle.md_cotree.specs.PlaceTrees.{PlaceTree, tip, inner, PlaceTrees, no_more, then, place_of, roots, times_among, leaves_among, leaf_count, leaf_counts, node_count, node_counts, row_length, shape, shapes}
 use Rattle.md_cotree.specs.Forests.{row_append, shape_list}
@@ -45,22 +44,19 @@ pub length_roots : (ts : PlaceTrees) → length (roots ts) ≡ row_length ts
 length_roots no_more = refl
 length_roots (then t ts) = let rest = length_roots ts in omega arith
 
--- the last trees of a row
+-- the first trees of a row
 pub record Split (ts : PlaceTrees) (n : ℕ) : Type 0 where
   pub before : PlaceTrees
   pub after : PlaceTrees
   pub whole : ts ≡ row_append before after
-  pub count : row_length after ≡ n
+  pub count : row_length before ≡ n
 
 pub split_row : (ts : PlaceTrees) (n : ℕ) → n ≤ row_length ts → Split ts n
-split_row no_more n few = record { before = no_more; after = no_more; whole = refl; count = omega arith }
-split_row (then t ts) n few =
-    elim (cases_lt (row_length ts) n) [
-      | inl all ↦ record { before = no_more; after = then t ts; whole = refl; count = omega arith }
-      | inr less ↦
-          let rest = split_row ts n (omega arith) in
-          record { before = then t rest.before; after = rest.after; whole = ap (then t) rest.whole; count = rest.count }
-    ]
+split_row ts zero few = record { before = no_more; after = ts; whole = refl; count = refl }
+split_row no_more (suc n) few = absurd (omega arith)
+split_row (then t ts) (suc n) few =
+    let rest = split_row ts n (omega arith) in
+    record { before = then t rest.before; after = rest.after; whole = ap (then t) rest.whole; count = let e = rest.count in omega arith }
 
 mutual
   pub some_node : (t : PlaceTree) → leaf_count t ≤ node_count t

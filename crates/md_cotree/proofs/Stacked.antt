@@ -13,7 +13,6 @@ use Rattle.md_tree.proofs.Spelled.{plain_two}
 use Rattle.md_tree.proofs.Folding.{IsFolding, fold_begin, fold_finds, fold_more}
 use Rattle.md_cotree.specs.Orders.{part_of_kind, PlainKeyed, tree_of, first_key, IsLooseNode, IsLoose, IsOrdered, IsPutOver, IsPartPut, HasBelow}
 use Rattle.md_cotree.proofs.Arranging.{IsArranged, Along, along_long, AllArranged, leaf_arranged, node_arranged}
-use Rattle.md_cotree.proofs.Naming.{EachPart, each_both}
 use Rattle.md_cotree.proofs.Rooted.{all_parts, one_tree}
 
 -- each keyed tree is the other one in order, where that is loose
@@ -69,6 +68,15 @@ part_more (Some Parallel) n zs ws ss all put = node_more ParallelKind n zs ws ss
 part_more (Some Series) n zs ws ss all put = node_more SeriesKind n zs ws ss all put
 
 -- ---- parts of a loose tree
+
+-- P holds of each part
+abbrev EachPart : (PlainPart → Type 0) → List PlainPart → Type 0
+EachPart P [] = ⊤
+EachPart P (p ∷ ps) = P p × EachPart P ps
+
+each_both : (P : PlainPart → Type 0) (ps qs : List PlainPart) → EachPart P ps → EachPart P qs → EachPart P (ps ++ qs)
+each_both P [] qs a b = b
+each_both P (p ∷ ps) qs a b = (a.0, each_both P ps qs a.1 b)
 
 abbrev IsBig : PlainPart → Type 0
 IsBig (name v) = ⊤

@@ -10,4 +10,4 @@ mod planting;
 
 pub use adjacency::parent_of;
 pub use cotree::{Cotree, keep_place};
-pub use planting::from_tree;
+pub use planting::{from_outline, from_tree};

@@ -12,7 +12,7 @@ use Rattle.md_digraph.proofs.ArcTurns.{arcs_turn, arcs_told}
 use Rattle.md_digraph.proofs.DigraphLemmas.{contains-successors}
 use Rattle.md_checker.specs.FitTests.{AreJoinedBy}
 use Rattle.md_outline.specs.HeadPairs.{head_pairs}
-use Rattle.md_checker.specs.TextViews.{IsView, IsTextOf}
+use Rattle.md_checker.specs.TextViews.{IsView, IsTextOfTree}
 use Rattle.md_outline.proofs.HeadPairs.{listed_in, in_listed}
 use Rattle.md_dtree.specs.declared.DKind.{DKind}
 use Rattle.md_dtree.specs.declared.DKind.TheVariants.{Parallel, Series, Order, Prime}
@@ -72,5 +72,5 @@ digraph_seen {g} digraph = record {
 }
 
 -- a text that the comparison takes is that of the tree of strong modules
-pub text_told : (g : PlainDigraph) (text : List ℕ) (t : PlainDTree) → IsTextOf directed_kinds directed_pairs (digraph_view g) text t → HasTreeText g text
+pub text_told : (g : PlainDigraph) (text : List ℕ) (t : PlainDTree) → IsTextOfTree directed_kinds directed_pairs (digraph_view g) text t → HasTreeText g text
 text_told g text t is = (Some t, (fits_proof (has_arc_to g) g.vertices t is.canonical).0 (is.names_are, is.fits), is.spelled)

@@ -3,7 +3,7 @@ use Rattle.std.proofs.Common.{◌≡◌, ◌≢◌, ℕ, ◌<◌, ◌↔◌, Boo
 use Rattle.std.proofs.lemmas.Bool.{cases_lt, false_from_ne_true}
 use Rattle.std.specs.FinSet.{empty, intersection}
 use Rattle.md_graph.specs.declared.TheConstants.{NAMES}
-use Rattle.md_graph.specs.Sets.{NameSet, Has, Lacks, HasSome}
+use Rattle.md_graph.specs.Sets.{NameSet, Has, Lacks}
 use Rattle.md_graph.proofs.SetLemmas.{of_meet, meet_has}
 use Rattle.md_modules.specs.Modules.{IsModule, IsMaximalStrong}
 use Rattle.md_modules.proofs.Strong.{children_meet}
@@ -15,9 +15,9 @@ use Rattle.md_digraph.proofs.DigraphLemmas.{contains-successors}
 use Rattle.md_tree.specs.StrongTrees.{IsBefore, ListsExactly}
 use Rattle.md_decompose.specs.Children.{AreChildren, set_at}
 use Rattle.md_decompose.specs.Heads.{HoldsHeads, ListsHeadPairs}
-use Rattle.md_decompose.proofs.OrderLemmas.{contains_at}
 use Rattle.md_decompose.proofs.Heads.{heads_rise}
 use Rattle.md_decompose.proofs.HeadPairs.{pairs_exactly}
+use Rattle.md_decompose.proofs.Joining.{child_at, child_within}
 use Rattle.md_dtree.specs.declared.DPair.{DPair}
 use Rattle.md_dtree.specs.DirectedSpelling.{directed_pairs}
 use Rattle.md_dtree.proofs.ArcKinds.{directed_pairs_law}
@@ -42,14 +42,8 @@ module _ (arc : ℕ → ℕ → Bool) (s : NameSet) (cs : List NameSet) (childre
   abbrev e : ℕ → ℕ → ArcColour
   e = between arc
 
-  child_at : (k : ℕ) → k < length cs → IsMaximalStrong e s (set_at cs k)
-  child_at k l = (children.exactly (set_at cs k)).1 (contains_at cs k l)
-
-  pub child_some : (k : ℕ) → k < length cs → HasSome (set_at cs k)
-  child_some k l = (child_at k l).is_strong.is_module.some
-
-  pub child_within : (k x : ℕ) → k < length cs → Has (set_at cs k) x → Has s x
-  child_within k x l h = (child_at k l).is_strong.is_module.inside x h
+  abbrev child : (k : ℕ) → k < length cs → IsMaximalStrong e s (set_at cs k)
+  child = child_at s cs children.exactly
 
   sets_differ : (i j : ℕ) → i < length cs → j < length cs → i ≢ j → set_at cs i ≢ set_at cs j
   sets_differ i j li lj differ same = elim (cases_lt i j) [
@@ -62,13 +56,13 @@ module _ (arc : ℕ → ℕ → Bool) (s : NameSet) (cs : List NameSet) (childre
   ]
 
   apart : (i j x : ℕ) → i < length cs → j < length cs → i ≢ j → Has (set_at cs i) x → Lacks (set_at cs j) x
-  apart i j x li lj differ h = false_from_ne_true _ (λ k. sets_differ i j li lj differ (children_meet s (set_at cs i) (set_at cs j) x (child_at i li) (child_at j lj) h k))
+  apart i j x li lj differ h = false_from_ne_true _ (λ k. sets_differ i j li lj differ (children_meet s (set_at cs i) (set_at cs j) x (child i li) (child j lj) h k))
 
   -- between two children all pairs have one colour
   same_arc : (i j a b x y : ℕ) → i < length cs → j < length cs → i ≢ j → Has (set_at cs i) a → Has (set_at cs j) b → Has (set_at cs i) x → Has (set_at cs j) y → arc a b ≡ true → arc x y ≡ true
   same_arc i j a b x y li lj differ ha hb hx hy runs =
-      let m : IsModule e s (set_at cs i) = (child_at i li).is_strong.is_module in
-      let n : IsModule e s (set_at cs j) = (child_at j lj).is_strong.is_module in
+      let m : IsModule e s (set_at cs i) = (child i li).is_strong.is_module in
+      let n : IsModule e s (set_at cs j) = (child j lj).is_strong.is_module in
       let first : e b x ≡ e b a = m.alike x a b hx ha (n.inside b hb) (apart j i b lj li (λ q. differ (sym q)) hb) in
       let second : e x y ≡ e x b = n.alike y b x hy hb (m.inside x hx) (apart i j x li lj differ hx) in
       ap (λ c. c.0) second ∙ ap (λ c. c.1) first ∙ runs
@@ -106,4 +100,4 @@ module _ (arc : ℕ → ℕ → Bool) (s : NameSet) (cs : List NameSet) (childre
     pub arcs_listed : ((v : ℕ) → Has s v → v < DIRECTED_NAMES) → (ps : List DPair) → ListsHeadPairs directed_pairs (IsHeadArc arc heads) places NAMES 0 ps → ListsExactly directed_pairs (IsArcOfSets arc cs) ps
     arcs_listed names ps lists =
         pairs_exactly directed_pairs_law heads (heads_rise cs children.order (length cs) heads places (omega arith) is) arcs_among (IsArcOfSets arc cs) ps
-        (λ v h. let few : v < DIRECTED_NAMES = names v (child_within (get_or places v 0) v (is.below v h) (is.least v h).member) in omega arith) to_sets of_sets lists
+        (λ v h. let few : v < DIRECTED_NAMES = names v (child_within s cs children.exactly (get_or places v 0) v (is.below v h) (is.least v h).member) in omega arith) to_sets of_sets lists

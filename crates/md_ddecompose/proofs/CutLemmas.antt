@@ -16,6 +16,7 @@ use Rattle.md_digraph.specs.declared.TheConstants.{DIRECTED_NAMES}
 use Rattle.md_digraph.specs.ArcColours.{ArcColour, between}
 use Rattle.md_digraph.proofs.ArcTurns.{arcs_turn}
 use Rattle.md_text.proofs.Lists.{In, Later, of_contains, to_contains, in_left, in_right, of_append, of_pairs, to_pairs, later_append, later_right, later_across}
+use Rattle.md_tree.proofs.Loops.{union_none}
 use Rattle.md_dtree.specs.DirectedTrees.{arc_forth, AllArcsTo}
 use Rattle.md_dtree.specs.Balance.{arcs_from, arcs_to, ListsMembers}
 use Rattle.md_dtree.proofs.BalanceLaws.{splits_proof, balance_proof}
@@ -75,9 +76,6 @@ pub record IsCutUpTo (arc : ℕ → ℕ → Bool) (s : NameSet) (done : List ℕ
 
 nothing : (x : ℕ) → Has (union empty empty) x → ⊥
 nothing x h = elim (of_union empty empty x h) [ inl i ↦ clash i (empty_lacks x) | inr i ↦ clash i (empty_lacks x) ]
-
-union_none : (s : NameSet) → union s empty ≡ s
-union_none s = same_members (union s empty) s (λ x h. elim (of_union s empty x h) [ inl i ↦ i | inr i ↦ clash i (empty_lacks x) ]) (λ x h. union_left s empty x h)
 
 module _ (arc : ℕ → ℕ → Bool) (s : NameSet) where
   abbrev e : ℕ → ℕ → ArcColour

@@ -11,16 +11,17 @@ use Rattle.md_text.proofs.Lists.{In, of_append, in_left, in_right}
 use Rattle.md_tree.specs.Trees.{leaf, node, names, row}
 use Rattle.md_tree.specs.Parts.{PlainPartOf, name, inner, parts_of, parts_backward}
 use Rattle.md_tree.proofs.Kinded.{built_tree}
-use Rattle.md_decompose.proofs.Joining.{weights, weights-append}
+use Rattle.md_decompose.proofs.Joining.{all_names, weights, weights-append, child_maximal, children_fall}
 use Rattle.md_decompose.proofs.Waiting.{no_trees, count_trees, laid_parts, parts_laid, GoesOn, IsPartOver, goes_begin, goes_more, goes_end}
 use Rattle.md_dtree.specs.declared.DKind.{DKind}
 use Rattle.md_dtree.specs.declared.DPair.{DPair}
-use Rattle.md_dtree.specs.DirectedTrees.{PlainDTree, IsDirectedTreeOf}
+use Rattle.md_dtree.specs.DirectedTrees.{PlainDTree, StandsBefore, IsDirectedTreeOf}
 use Rattle.md_dtree.proofs.ArcKinds.{directed_kinds_law, two_of_kind}
+use Rattle.md_dtree.proofs.DirectedCanonical.{IsDBuilt}
 use Rattle.md_ddecompose.specs.declared.decomposition.Open.{Open}
 use Rattle.md_ddecompose.specs.Children.{DiffersFrom}
 use Rattle.md_ddecompose.specs.Turns.{open_below, IsDPartOf, IsTakenApart}
-use Rattle.md_ddecompose.proofs.DirectedNodes.{IsDBuilt, child_differs, all_names, node_built, child_maximal, children_fall}
+use Rattle.md_ddecompose.proofs.DirectedNodes.{child_differs, node_built, not_own}
 
 abbrev names_of : {w : ℕ} → Open w → NameSet
 names_of o = o.names
@@ -68,7 +69,7 @@ module _ {w : ℕ} (arc : ℕ → ℕ → Bool) (all : NameSet) where
         let b : weights (sets_of added) ≡ 0 = ap (λ ws. weights (sets_of ws)) part.1 in
         omega arith
     part_falls (inner k n ps) added part =
-        let a : weights part.0 < 2 * len o.names - 1 = children_fall arc o.names k part.0 part.1.children (two_of_kind arc o.names k part.1.kind) in
+        let a : weights part.0 < 2 * len o.names - 1 = children_fall o.names (StandsBefore arc k) (not_own arc k) part.0 part.1.children.exactly part.1.children.order arcs_told (two_of_kind arc o.names k part.1.kind) in
         let b : weights (sets_of added) ≡ weights part.0 = ap weights (ap sets_of part.2 ∙ sets_below w k part.0) in
         omega arith
 
@@ -76,7 +77,7 @@ module _ {w : ℕ} (arc : ℕ → ℕ → Bool) (all : NameSet) where
     part_ready (name v) added part q i = absurd (subst (λ ws. In ws q) part.1 i)
     part_ready (inner k n ps) added part q i =
         let c : (c : NameSet) × In part.0 c × (q ≡ open_below k c) = of_below k part.0 q (subst (λ ws. In ws q) part.2 i) in
-        let max : IsMaximalStrong (between arc) o.names c.0 = child_maximal arc o.names k part.0 part.1.children c.0 c.1 in
+        let max : IsMaximalStrong (between arc) o.names c.0 = child_maximal o.names part.0 part.1.children.exactly c.0 c.1 in
         subst (IsReady arc all) (sym c.2) (record {
           some = max.is_strong.is_module.some;
           inside = λ x h. next_ready.inside x (max.is_strong.is_module.inside x h);
@@ -91,7 +92,7 @@ module _ {w : ℕ} (arc : ℕ → ℕ → Bool) (all : NameSet) where
         let same : map names us ≡ part.0 = sets ∙ ap sets_of part.2 ∙ sets_below w k part.0 in
         let two : HasTwo o.names = two_of_kind arc o.names k part.1.kind in (
           node k (row us) ps,
-          all_names arc us part.0 same o.names k part.1.children two,
+          all_names us part.0 same o.names part.1.children.exactly arcs_told two,
           (node_built arc us part.0 same o.names k part.1.children two ps part.1.kind part.1.pairs, each),
           ap (λ m. inner k m ps ∷ parts_backward (row us)) (count_trees us ∙ ap (λ cs. length cs) same ∙ sym part.1.number),
         )

@@ -1,14 +1,14 @@
 -- Pairs of heads, put down one head after the other, and for each head one other head after the other.
-use Rattle.std.proofs.Common.{◌≡◌, ◌≢◌, ℕ, ◌+◌, ◌<◌, ◌≤◌, Bool, true, List, [], ◌∷◌, ◌++◌, ◌↔◌, Contains, length, get_or, map, refl, sym, ◌∙◌, ap, subst, inl, inr, arith, append_assoc, append-nil}
+use Rattle.std.proofs.Common.{◌≡◌, ◌≢◌, ℕ, ◌+◌, ◌<◌, ◌≤◌, Bool, List, [], ◌∷◌, ◌++◌, ◌↔◌, Contains, length, get_or, map, refl, sym, ◌∙◌, ap, subst, inl, inr, arith, append_assoc, append-nil}
 use Rattle.std.proofs.Math.ListN.{get_or-eq_default}
-use Rattle.std.proofs.lemmas.Bool.{cases_lt, cases_Bool, false_from_ne_true}
-use Rattle.std.specs.FinSet.{contains, empty, remove, intersection}
+use Rattle.std.proofs.lemmas.Bool.{cases_lt}
+use Rattle.std.specs.FinSet.{empty, remove, intersection}
 use Rattle.md_graph.specs.declared.TheConstants.{NAMES}
 use Rattle.md_graph.specs.NameSet.{AllBelow, IsLeastFrom, ascending, ascending_from}
 use Rattle.md_graph.specs.PlainGraph.{PlainGraph, IsGraph, adjacent, neighbours}
 use Rattle.md_graph.proofs.NameLemmas.{IsTurn, walk_turn, walk_end}
 use Rattle.md_graph.proofs.GraphLemmas.{contains-neighbours}
-use Rattle.md_graph.specs.Sets.{NameSet, Has, HasSome, Within}
+use Rattle.md_graph.specs.Sets.{NameSet, Has, Within}
 use Rattle.md_modules.specs.Modules.{IsMaximalModule}
 use Rattle.md_modules.specs.Kinds.{IsPrime}
 use Rattle.md_graph.proofs.SetLemmas.{of_meet, meet_has, of_remove, remove_left, clash, empty_lacks, Has-along}
@@ -22,10 +22,11 @@ use Rattle.md_tree.specs.StrongTrees.{IsBefore, ListsExactly}
 use Rattle.md_tree.specs.Spellings.{PairRules, ArePairRules, IsPairBeforeBy, graph_pairs}
 use Rattle.md_tree.proofs.Spelled.{graph_pairs_law}
 use Rattle.md_tree.specs.declared.Pair.{Pair}
-use Rattle.md_text.proofs.Lists.{In, of_contains, to_contains, in_get, in_left, in_right, of_append, of_pairs, to_pairs, later_append}
+use Rattle.md_text.proofs.Lists.{In, of_contains, to_contains, in_left, in_right, of_append, of_pairs, to_pairs, later_append}
 use Rattle.md_decompose.specs.Children.{AreChildren, ListsPairs, AreSetsJoined, set_at}
 use Rattle.md_decompose.specs.Heads.{HoldsHeads, RisesOn, AreNear, ComesBefore, pair_at, ListsHeadPairs}
 use Rattle.md_decompose.proofs.Heads.{head_below, heads_rise}
+use Rattle.md_decompose.proofs.Joining.{child_at, child_within}
 
 -- the pairs with the head h and one of near below low are put down, and the other names of near are left
 pub record IsPushing {P : Type 0} (r : PairRules P) (Near : ℕ → ℕ → Type 0) (places : List ℕ) (h : ℕ) (near : NameSet) (left : List ℕ) (ps : List P) : Type 0 where
@@ -257,14 +258,8 @@ module _ {e : ℕ → ℕ → Bool} (heads : NameSet) (places : List ℕ) (risin
 
 -- the pairs of all heads are those of the sets between which an edge runs
 module _ {g : PlainGraph} (is_graph : IsGraph g) (s : NameSet) (cs : List NameSet) (prime : IsPrime (adjacent g) s) (children : AreChildren (adjacent g) s cs) where
-  child_at : (k : ℕ) → k < length cs → IsMaximalModule (adjacent g) s (set_at cs k)
-  child_at k room = child_maximal (undirected (adjacency is_graph)) decide_test s (set_at cs k) (prime_unsplit s prime) ((children.exactly (set_at cs k)).1 (to_contains cs (set_at cs k) (in_get cs k empty room)))
-
-  pub child_some : (k : ℕ) → k < length cs → HasSome (set_at cs k)
-  child_some k room = (child_at k room).is_module.some
-
-  pub child_within : (k x : ℕ) → k < length cs → Has (set_at cs k) x → Has s x
-  child_within k x room h = (child_at k room).is_module.inside x h
+  maximal_at : (k : ℕ) → k < length cs → IsMaximalModule (adjacent g) s (set_at cs k)
+  maximal_at k room = child_maximal (undirected (adjacency is_graph)) decide_test s (set_at cs k) (prime_unsplit s prime) (child_at s cs children.exactly k room)
 
   place_of : (k x : ℕ) → Has (set_at cs k) x → k < length cs
   place_of k x h = elim (cases_lt k (length cs)) [
@@ -302,7 +297,7 @@ module _ {g : PlainGraph} (is_graph : IsGraph g) (s : NameSet) (cs : List NameSe
             second = b.1;
             ordered = head_below cs children.order i j a.0 b.0 up room a_least b_least.member;
             edge = (maximal_modules_proof (adjacent g) (adjacency is_graph) s prime).alike (set_at cs i) (set_at cs j) a.0 b.0 x y
-                (child_at i (omega arith)) (child_at j room) (apart i j up room) a_least.member joined.edge.2 b_least.member joined.edge.3
+                (maximal_at i (omega arith)) (maximal_at j room) (apart i j up room) a_least.member joined.edge.2 b_least.member joined.edge.3
                 ∙ joined.edge.4;
           },
           a.2,
@@ -312,4 +307,4 @@ module _ {g : PlainGraph} (is_graph : IsGraph g) (s : NameSet) (cs : List NameSe
     pub pairs_listed : Within s g.vertices → (ps : List Pair) → ListsHeadPairs graph_pairs (AreNear (adjacent g) heads) places NAMES 0 ps → ListsPairs (adjacent g) cs ps
     pairs_listed inside ps lists =
         pairs_exactly graph_pairs_law heads (heads_rise cs children.order (length cs) heads places (omega arith) is) near_among (AreSetsJoined (adjacent g) cs) ps
-        (λ v h. is_graph.names v (inside v (child_within (get_or places v 0) v (is.below v h) (is.least v h).member))) to_joined of_joined lists
+        (λ v h. is_graph.names v (inside v (child_within s cs children.exactly (get_or places v 0) v (is.below v h) (is.least v h).member))) to_joined of_joined lists

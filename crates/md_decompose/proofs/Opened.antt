@@ -1,9 +1,9 @@
 -- The sets that wait to be taken apart, and what is laid down so far: whatever trees the sets have, with theirs it is what is laid down of a tree.
-use Rattle.std.proofs.Common.{◌≡◌, ℕ, suc, ◌+◌, ◌-◌, ◌*◌, ◌<◌, ◌≤◌, Bool, true, false, List, [], ◌∷◌, ◌++◌, length, map, reverse, Contains, Option, Some, None, refl, sym, ◌∙◌, ap, subst, inl, inr, arith, append_assoc, append-nil}
-use Rattle.std.proofs.lemmas.List.{map-append}
+use Rattle.std.proofs.Common.{◌≡◌, ℕ, zero, suc, take, drop, ◌+◌, ◌-◌, ◌*◌, ◌<◌, ◌≤◌, ◌⊎◌, Bool, true, false, List, [], ◌∷◌, ◌++◌, length, map, reverse, Contains, Option, Some, None, refl, sym, ◌∙◌, ap, subst, inl, inr, arith, append_assoc, append-nil}
+use Rattle.std.proofs.lemmas.List.{map-append, take-append-drop, drop_at}
 use Rattle.std.specs.FinSet.{len}
 use Rattle.md_graph.specs.NameSet.{IsLeastFrom}
-use Rattle.md_graph.specs.Sets.{NameSet, Has, Within, HasSome, HasTwo}
+use Rattle.md_graph.specs.Sets.{NameSet, Has, Within, HasSome, HasTwo, only_name}
 use Rattle.md_graph.specs.Adjacency.{IsAdjacency}
 use Rattle.md_modules.specs.Modules.{IsMaximalStrong}
 use Rattle.md_graph.proofs.SetLemmas.{Has-along}
@@ -26,14 +26,15 @@ use Rattle.md_decompose.specs.declared.decomposition.OpenSet.{OpenSet}
 use Rattle.md_tree.specs.Parts.{PlainPart, name, inner}
 use Rattle.md_outline.specs.declared.outline.OutlinePart.{OutlinePart}
 use Rattle.md_outline.specs.declared.outline.OutlinePart.TheVariants.{Name, Node}
+use Rattle.md_outline.proofs.TreeOutlines.{map_reverse}
 use Rattle.md_decompose.specs.Children.{FitsBelow, AreChildren}
 use Rattle.md_decompose.specs.declared.nested_modules.Nested.{Nested}
 use Rattle.md_decompose.specs.Chains.{step_at, AreSteps, IsChainOf, IsChainFront}
-use Rattle.md_decompose.specs.Turns.{open_names, IsOpenOf, IsNoVertexAlone, IsUnder, FitsOpen, HasChain, HasNoChain, HasFront, sets_of, AreBare, IsFirstOpen, AreOpen, IsNode, IsPartOf, IsOutlinePartOf, TakesApart}
+use Rattle.md_decompose.specs.Turns.{open_names, IsOpenOf, IsNoVertexAlone, IsUnder, FitsOpen, HasChain, HasNoChain, HasFront, sets_of, AreBare, IsFirstOpen, AreOpen, AreOpenFrom, IsNode, IsPartOf, IsOutlinePartOf, TakesApart, TakesOutlined}
 use Rattle.md_decompose.proofs.ChainLemmas.{steps_none, steps_inside}
-use Rattle.md_decompose.proofs.Turned.{map_reverse, in_reverse, each_reverse, laid_outlines}
+use Rattle.md_decompose.proofs.Turned.{reverse_more, in_reverse, each_reverse, laid_outlines, outlines_laid}
 use Rattle.md_decompose.proofs.Waiting.{no_trees, count_trees, IsLaidBackward, laid_parts, GoesOn, IsPartOver, goes_begin, goes_more, goes_end}
-use Rattle.md_decompose.proofs.Joining.{has_pairs, all_names, node_built, weights, weights-append, weights-reverse, child_maximal, children_fall}
+use Rattle.md_decompose.proofs.Joining.{has_pairs, all_names, node_built, weights, weights-append, weights-reverse, not_before, child_maximal, children_fall}
 
 in_sets : {w : ℕ} (os : List (Open w)) (o : Open w) → In os o → In (sets_of os) (open_names o)
 in_sets [] o i = absurd i
@@ -93,6 +94,76 @@ opened_all k c cs all chain begun begun' now o is_all first is_begun is = (
   is.1 ∙ ap (λ os. os ++ is.0) is_begun ∙ append_assoc begun (o ∷ []) is.0,
   subst (λ ss. AreOpen k ss chain (o ∷ is.0)) (sym is_all) (o, is.0, refl, first, is.2),
 )
+
+-- one more set before those that are opened without chains
+pub bare_more : {w : ℕ} (k : Kind) (c : NameSet) (cs : List NameSet) (o : Open w) (os : List (Open w)) → open_names o ≡ c → IsUnder (Some k) o → HasNoChain o → AreBare k cs os →
+    AreBare k (c ∷ cs) (o ∷ os)
+bare_more {w} k c cs o os own below bare is = (
+  ap (λ s. s ∷ sets_of os) own ∙ ap (λ ss. c ∷ ss) is.0,
+  λ q known. elim (of_contains (o ∷ os) q known) [
+    | inl same ↦ subst (λ (p : Open w). IsUnder (Some k) p × HasNoChain p) (sym same) (below, bare)
+    | inr i ↦ is.1 q (to_contains os q i)
+  ],
+)
+
+-- sets that are taken from the end of a list are opened from the last to the first
+pub backward_more : {w : ℕ} (k : Kind) (front front' cs : List NameSet) (c : NameSet) (begun now now' : List (Open w)) (o : Open w) (os : List (Open w)) → front ≡ front' ++ c ∷ [] →
+    now ≡ begun ++ reverse os → now' ≡ now ++ o ∷ [] → (front ++ cs ≡ front' ++ c ∷ cs) × (now' ≡ begun ++ reverse (o ∷ os))
+backward_more k front front' cs c begun now now' o os is_front is_now is_next = (
+  ap (λ ss. ss ++ cs) is_front ∙ append_assoc front' (c ∷ []) cs,
+  is_next ∙ ap (λ us. us ++ o ∷ []) is_now ∙ append_assoc begun (reverse os) (o ∷ []) ∙ ap (λ us. begun ++ us) (sym (reverse_more o os)),
+)
+
+no_opens : {w : ℕ} (os : List (Open w)) → sets_of os ≡ [] → os ≡ []
+no_opens [] none = refl
+no_opens (o ∷ os) none = absurd (cc)
+
+-- all sets from the n-th on are opened, where n isn't 0
+pub opened_behind : {w : ℕ} (k : Kind) (n : ℕ) (cs left ds : List NameSet) (chain : Nested) (os : List (Open w)) → 0 < n → length left ≡ n → cs ≡ left ++ ds → AreBare k ds os →
+    AreOpenFrom k n cs chain os
+opened_behind k zero cs left ds chain os some long whole is = absurd (omega arith)
+opened_behind k (suc n) cs left ds chain os some long whole is =
+    subst (λ ss. AreBare k ss os) (sym (ap (drop (suc n)) whole ∙ drop_at left ds (suc n) long)) is
+
+-- all sets are opened, the first one last
+pub opened_whole : {w : ℕ} (k : Kind) (n : ℕ) (cs left ds : List NameSet) (chain : Nested) (begun now now' os : List (Open w)) → n ≡ 0 → length left ≤ 1 → (1 ≤ length left) ⊎ (left ≡ cs) → cs ≡ left ++ ds →
+    now ≡ begun ++ reverse os → AreBare k ds os →
+    ((c : NameSet) (fs : List NameSet) → left ≡ fs ++ c ∷ [] → (o : Open w) × (now' ≡ now ++ o ∷ []) × IsFirstOpen k c chain o) → (left ≡ [] → now' ≡ now) →
+    (us : List (Open w)) × (now' ≡ begun ++ reverse us) × AreOpenFrom k n cs chain us
+opened_whole {w} k n cs [] ds chain begun now now' os zero_is few most whole is_now is some none =
+    let empty : cs ≡ [] = elim most [ inl less ↦ absurd (omega arith) | inr same ↦ sym same ] in (
+      os,
+      none refl ∙ is_now,
+      subst (λ m. AreOpenFrom k m cs chain os) (sym zero_is) (subst (λ ss. AreOpen k ss chain os) (sym empty) (no_opens os (is.0 ∙ sym whole ∙ empty))),
+    )
+opened_whole {w} k n cs (c ∷ []) ds chain begun now now' os zero_is few most whole is_now is some none =
+    let first = some c [] refl in (
+      first.0 ∷ os,
+      first.1 ∙ ap (λ us. us ++ first.0 ∷ []) is_now ∙ append_assoc begun (reverse os) (first.0 ∷ []) ∙ ap (λ us. begun ++ us) (sym (reverse_more first.0 os)),
+      subst (λ m. AreOpenFrom k m cs chain (first.0 ∷ os)) (sym zero_is) (subst (λ ss. AreOpen k ss chain (first.0 ∷ os)) (sym whole) (first.0, os, refl, first.2, is)),
+    )
+opened_whole {w} k n cs (c ∷ d ∷ left) ds chain begun now now' os zero_is few most whole is_now is some none = absurd (omega arith)
+
+-- names before the sets that are opened
+names_bare : {w : ℕ} (k : Kind) (vs : List ℕ) (cs : List NameSet) (os : List (Open w)) → AreBare k cs os → AreBare k (map only_name vs ++ cs) (map One vs ++ os)
+names_bare k [] cs os is = is
+names_bare k (v ∷ vs) cs os is = bare_more k (only_name v) (map only_name vs ++ cs) (One v) (map One vs ++ os) refl tt tt (names_bare k vs cs os is)
+
+pub opened_from : {w : ℕ} (k : Kind) (n : ℕ) (cs : List NameSet) (chain : Nested) (vs : List ℕ) (os : List (Open w)) → take n cs ≡ map only_name vs → n ≤ length cs → AreOpenFrom k n cs chain os →
+    AreOpen k cs chain (map One vs ++ os)
+opened_from k zero cs chain [] os front few is = is
+opened_from k zero cs chain (v ∷ vs) os front few is = absurd (cc)
+opened_from k (suc n) [] chain vs os front few is = absurd (omega arith)
+opened_from k (suc n) (c ∷ cs) chain [] os front few is = absurd (cc)
+opened_from k (suc n) (c ∷ cs) chain (v ∷ vs) os front few is =
+    let own : c ≡ only_name v = cc in
+    let others : take n cs ≡ map only_name vs = cc in (
+      One v,
+      map One vs ++ os,
+      refl,
+      record { is = sym own; below = tt; front = tt },
+      subst (λ ds. AreBare k ds (map One vs ++ os)) (ap (λ ds. ds ++ drop n cs) (sym others) ∙ take-append-drop n cs) (names_bare k vs (drop n cs) os is),
+    )
 
 bare_chain : {w : ℕ} (e : ℕ → ℕ → Bool) (o : Open w) → HasNoChain o → HasChain e o
 bare_chain e (One v) bare = tt
@@ -209,12 +280,12 @@ module _ {e : ℕ → ℕ → Bool} (adj : IsAdjacency e) where
     node_two = two_of_kind e s k is.kind
 
     node_falls : weights (sets_of os) < 2 * len s - 1
-    node_falls = children_fall s (sets_of os) is.children node_two
+    node_falls = children_fall s IsBefore not_before (sets_of os) is.children.exactly is.children.order decide_test node_two
 
     node_ready : (q : Open w) → In os q → IsReady e s q
     node_ready q i =
         let below : IsUnder (Some k) q × HasChain e q = is.each q (to_contains os q i) in
-        let max : IsMaximalStrong e s (open_names q) = child_maximal s (sets_of os) is.children (open_names q) (in_sets os q i) in
+        let max : IsMaximalStrong e s (open_names q) = child_maximal s (sets_of os) is.children.exactly (open_names q) (in_sets os q i) in
         record {
           some = max.is_strong.is_module.some;
           two = no_vertex (Some k) q below.0 max.is_strong.is_module.some;
@@ -225,7 +296,7 @@ module _ {e : ℕ → ℕ → Bool} (adj : IsAdjacency e) where
 
     module _ (us : List PlainTree) (same : map names us ≡ sets_of os) (each : EachNodeBelow (IsBuilt e) (row us)) (ps : List Pair) (pairs : HasPairs e k (row us) ps) where
       node_names : names (node k (row us) ps) ≡ s
-      node_names = all_names e us (sets_of os) same s is.children node_two
+      node_names = all_names us (sets_of os) same s is.children.exactly decide_test node_two
 
       node_each : EachNode (IsBuilt e) (node k (row us) ps)
       node_each = (node_built e us (sets_of os) same s is.children node_two k ps is.kind pairs, each)
@@ -357,3 +428,48 @@ module _ {e : ℕ → ℕ → Bool} (adj : IsAdjacency e) where
     opened_end parts os is none =
         let b = goes_end is_laid (IsBuilt e) all parts (subst (GoesOn laid (IsBuilt e) all parts) (ap sets_of none) is.goes_on) in
         (b.0, built_tree (kinds_of_graphs (undirected adj)) decide_test all b.0 b.1 b.2, b.3)
+
+  -- ---- names that follow a part of an outline
+
+  -- names that wait, the first one last, are taken apart one after the other
+  pub names_more : {w : ℕ} (all : NameSet) (vs : List ℕ) (parts : List (OutlinePart Kind)) (waiting : List (Open w)) →
+      IsOpened laid_outlines e all parts (waiting ++ reverse (map One vs)) → IsOpened laid_outlines e all (parts ++ map Name vs) waiting
+  names_more all [] parts waiting is =
+      subst (λ ps. IsOpened laid_outlines e all ps waiting) (sym (append-nil parts)) (subst (IsOpened laid_outlines e all parts) (append-nil waiting) is)
+  names_more {w} all (v ∷ vs) parts waiting is =
+      let before : List (Open w) = waiting ++ reverse (map One vs) in
+      let popped : waiting ++ reverse (map One (v ∷ vs)) ≡ before ++ One v ∷ [] =
+      ap (λ os. waiting ++ os) (reverse_more (One v) (map One vs)) ∙ sym (append_assoc waiting (reverse (map One vs)) (One v ∷ [])) in
+      let ready : IsReady e all (One v) = next_ready outlines_laid all parts (waiting ++ reverse (map One (v ∷ vs))) before (One v) is popped in
+      let one : IsOpened laid_outlines e all (parts ++ Name v ∷ []) before =
+      opened_more outlines_laid all parts (waiting ++ reverse (map One (v ∷ vs))) before (One v) is popped
+      (IsOutlinePartOf e (only_name v)) (λ p added. outline_division (only_name v) p added ready.some)
+      (parts ++ Name v ∷ []) before (Name v, [], (refl, refl), refl, sym (append-nil before)) in
+      subst (λ ps. IsOpened laid_outlines e all ps waiting) (append_assoc parts (Name v ∷ []) (map Name vs)) (names_more all vs (parts ++ Name v ∷ []) waiting one)
+
+  module _ {w : ℕ} (all : NameSet) (parts : List (OutlinePart Kind)) (os waiting : List (Open w)) (o : Open w) (is : IsOpened laid_outlines e all parts os) (popped : os ≡ waiting ++ o ∷ [])
+      (some : HasSome (open_names o)) (parts' : List (OutlinePart Kind)) (os' : List (Open w)) (turn : TakesOutlined (IsOutlinePartOf e (open_names o)) parts waiting parts' os') where
+    -- the part alone, before the names that follow it
+    abbrev one_turn : TakesApart (IsOutlinePartOf e (open_names o)) parts waiting (parts ++ turn.0 ∷ []) (waiting ++ (turn.2 ++ reverse (map One turn.1)))
+    one_turn = (turn.0, turn.2 ++ reverse (map One turn.1), turn.3, refl, refl)
+
+    pub outlined_falls : weights (sets_of os') < weights (sets_of os)
+    outlined_falls =
+        let a : weights (sets_of (waiting ++ (turn.2 ++ reverse (map One turn.1)))) < weights (sets_of os) =
+        turn_falls outlines_laid all parts os waiting o is popped (IsOutlinePartOf e (open_names o)) (λ p added. outline_division (open_names o) p added some)
+        (parts ++ turn.0 ∷ []) (waiting ++ (turn.2 ++ reverse (map One turn.1))) one_turn in
+        let cut : weights (sets_of (waiting ++ (turn.2 ++ reverse (map One turn.1)))) ≡ weights (sets_of (waiting ++ turn.2)) + weights (sets_of (reverse (map One turn.1))) =
+        ap weights (ap sets_of (sym (append_assoc waiting turn.2 (reverse (map One turn.1)))) ∙ map-append open_names (waiting ++ turn.2) (reverse (map One turn.1)))
+        ∙ weights-append (sets_of (waiting ++ turn.2)) (sets_of (reverse (map One turn.1))) in
+        let b : weights (sets_of os') ≡ weights (sets_of (waiting ++ turn.2)) = ap (λ (us : List (Open w)). weights (sets_of us)) turn.5 in
+        omega arith
+
+    pub outlined_more : IsOpened laid_outlines e all parts' os'
+    outlined_more =
+        let whole : IsOpened laid_outlines e all (parts ++ turn.0 ∷ []) (waiting ++ (turn.2 ++ reverse (map One turn.1))) =
+        opened_more outlines_laid all parts os waiting o is popped (IsOutlinePartOf e (open_names o)) (λ p added. outline_division (open_names o) p added some)
+        (parts ++ turn.0 ∷ []) (waiting ++ (turn.2 ++ reverse (map One turn.1))) one_turn in
+        subst (λ ps. IsOpened laid_outlines e all ps os') (sym turn.4)
+        (subst (IsOpened laid_outlines e all ((parts ++ turn.0 ∷ []) ++ map Name turn.1)) (sym turn.5)
+        (names_more all turn.1 (parts ++ turn.0 ∷ []) (waiting ++ turn.2)
+        (subst (IsOpened laid_outlines e all (parts ++ turn.0 ∷ [])) (sym (append_assoc waiting turn.2 (reverse (map One turn.1)))) whole)))

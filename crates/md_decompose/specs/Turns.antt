@@ -1,6 +1,6 @@
 -- One turn of a decomposition: a set is taken apart, which gives one part of the tree and the sets of its children.
 -- Source: top-down modular decomposition, as in Habib and Paul, A survey of the algorithmic aspects of modular decomposition.
-use Rattle.std.specs.Prelude.{◌≡◌, ℕ, Bool, List, [], ◌∷◌, ◌++◌, map, reverse, length, Contains, Option, Some, ⊤}
+use Rattle.std.specs.Prelude.{◌≡◌, ◌≤◌, ℕ, zero, suc, Bool, List, [], ◌∷◌, ◌++◌, map, reverse, take, drop, length, Contains, Option, Some, ⊤}
 use Rattle.std.specs.FinSet.{len}
 use Rattle.md_graph.specs.Sets.{NameSet, HasSome, HasTwo, only_name}
 use Rattle.md_tree.specs.declared.Kind.{Kind}
@@ -76,6 +76,11 @@ AreOpen {w} k [] chain os = os ≡ []
 AreOpen {w} k (c ∷ cs) chain os =
     (o : Open w) × (us : List (Open w)) × (os ≡ o ∷ us) × IsFirstOpen k c chain o × AreBare k cs us
 
+-- os are the sets cs from the n-th on below a node of kind k; the first of all has a front of a chain, and the others have none
+abbrev pub AreOpenFrom : {w : ℕ} → Kind → ℕ → List NameSet → Nested → List (Open w) → Type 0
+AreOpenFrom {w} k zero cs chain os = AreOpen k cs chain os
+AreOpenFrom {w} k (suc n) cs chain os = AreBare k (drop (suc n) cs) os
+
 -- a prime node lists the pairs of its children between which an edge runs, and no other node lists pairs
 abbrev pub ListsForKind : (ℕ → ℕ → Bool) → Kind → List NameSet → List Pair → Type 0
 ListsForKind e Parallel cs ps = ps ≡ []
@@ -103,3 +108,14 @@ IsOutlinePartOf {w} e s (Node k n) os = IsNode e s k n (reverse os)
 abbrev pub TakesApart : {w : ℕ} {X : Type 0} → (X → List (Open w) → Type 0) → List X → List (Open w) → List X → List (Open w) → Type 0
 TakesApart {w} {X} IsFound parts waiting parts' waiting' =
     (p : X) × (os : List (Open w)) × IsFound p os × (parts' ≡ parts ++ p ∷ []) × (waiting' ≡ waiting ++ os)
+
+-- the first n of the sets are names alone, and their parts come behind the others
+abbrev pub AreNamesPushed : ℕ → List NameSet → List (OutlinePart Kind) → List (OutlinePart Kind) → Type 0
+AreNamesPushed n sets parts parts' = (vs : List ℕ) × (take n sets ≡ map only_name vs) × (n ≤ length sets) × (parts' ≡ parts ++ map Name vs)
+
+-- a part comes behind the parts so far, and then names; of the sets that are found with the part those of the names are the last ones,
+-- and the others come behind the waiting ones
+abbrev pub TakesOutlined : {w : ℕ} → (OutlinePart Kind → List (Open w) → Type 0) → List (OutlinePart Kind) → List (Open w) → List (OutlinePart Kind) → List (Open w) → Type 0
+TakesOutlined {w} IsFound parts waiting parts' waiting' =
+    (p : OutlinePart Kind) × (vs : List ℕ) × (os : List (Open w)) × IsFound p (os ++ reverse (map One vs))
+    × (parts' ≡ (parts ++ p ∷ []) ++ map Name vs) × (waiting' ≡ waiting ++ os)

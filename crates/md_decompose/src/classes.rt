@@ -14,7 +14,8 @@ use std::alloc::Global;
 const SOME: usize = 64;
 // A set of so many vertices is large: a pass over all neighbours of all members is worth its cost.
 const LARGE: u32 = 512;
-// So many members of a set are asked how many neighbours they have.
+// So many members of a set are asked how many neighbours they have: they stand far apart, since the
+// first ones or the last ones alone may have few neighbours in a dense graph.
 const ASKED: u32 = 8;
 // In a sparse set these members together have at most one in so many of the members beside them.
 const SPARSE: u32 = 8;
@@ -65,19 +66,19 @@ fn finer_classes<const W: usize>(
     Ok(begun)
 }
 
-// Whether a set of vertices is large, and its first members have few neighbours in it.
+// Whether a set of vertices is large, and members of it that stand far apart have few neighbours
+// in it.
 fn is_large_and_sparse<const W: usize>(graph: &GraphOf<W>, set: &Set<W>) -> bool {
     let count = set.count();
     if count < LARGE {
         return false;
     }
     set.within_limit();
+    let apart = set.last().unwrap_or(0) / ASKED;
     let mut near = Set::none();
-    let mut from = 0;
-    for _ in 0..ASKED {
-        if let Some(v) = set.first_from(from) {
+    for part in 0..ASKED {
+        if let Some(v) = set.first_from(apart * part) {
             near.union_with(graph.row(v));
-            from = v + 1;
         }
     }
     near.and(set).count() <= count / SPARSE

@@ -163,7 +163,11 @@ fn take_set_apart<const W: usize>(
 
 // A set that is to be taken apart, with its chain.
 #[inline(always)]
-fn open_set<const W: usize>(names: CompactSet<W>, parent: Option<Kind>, chain: Nested) -> Open<W>
+pub(crate) fn open_set<const W: usize>(
+    names: CompactSet<W>,
+    parent: Option<Kind>,
+    chain: Nested,
+) -> Open<W>
     ensures { IsOpenOf names.entry parent chain result }
 {
     if let Some(vertex) = names.alone() {
@@ -178,7 +182,7 @@ fn open_set<const W: usize>(names: CompactSet<W>, parent: Option<Kind>, chain: N
 
 // The children's sets in order, so that the last one is taken apart first. The first one gets the
 // modules of the chain that lie in it.
-pub(crate) fn push_open<const W: usize>(
+fn push_open<const W: usize>(
     alloc: Global,
     waiting: &mut Vec<Open<W>>,
     kind: Kind,

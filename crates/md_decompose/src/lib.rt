@@ -16,5 +16,5 @@ mod refined;
 
 pub use decomposition::{decompose, decompose_within};
 pub use ordered::in_order;
-pub use outline::graph_outline;
+pub use outline::{fill_outline, graph_outline};
 pub use quotient::{heads_of, make_room, push_near};

@@ -1,8 +1,8 @@
 -- The members of a set of names in ascending order: how many are below a name, and a walk over them that counts.
-use Rattle.std.specs.Prelude.{◌≡◌, ℕ, suc, ◌+◌, ◌^◌, ◌<◌, ◌≤◌, Bool, true, false, cond, List, [], ◌∷◌, ◌++◌, length}
+use Rattle.std.specs.Prelude.{◌≡◌, ℕ, ◌+◌, ◌^◌, ◌<◌, ◌≤◌, List, ◌∷◌, length}
 use Rattle.std.proofs.Common.{subst, ap, sym, ◌∙◌, arith, length-append}
-use Rattle.std.proofs.lemmas.List.{append-nil}
 use Rattle.std.proofs.lemmas.Bool.{false_from_ne_true}
+use Rattle.md_blocks.proofs.BlockLemmas.{nothing_below}
 use Rattle.md_graph.specs.declared.TheConstants.{NAMES}
 use Rattle.md_graph.specs.Sets.{NameSet, Has}
 use Rattle.md_graph.specs.NameSet.{ascending, ascending_between}
@@ -13,13 +13,6 @@ use Rattle.md_graph.proofs.NameLemmas.{IsFirstItem, few_below, ascending_none, a
 use Rattle.md_dimacs.specs.Text.{position}
 
 -- ---- how many there are
-
-pub at_most_one_more : (xs : List ℕ) (x n : ℕ) (b : Bool) → length xs ≤ n → length (xs ++ cond b (x ∷ []) []) ≤ suc n
-at_most_one_more xs x n true h = let e = length-append xs (x ∷ []) in omega arith
-at_most_one_more xs x n false h = let e = ap length (append-nil xs) in omega arith
-
-pub nothing_below : (s : NameSet) (low n : ℕ) → n ≤ low → ascending_between s low n ≡ []
-nothing_below s low n h = ascending_none s low n (λ w from below. absurd (omega arith))
 
 count_split : (s : NameSet) (m n : ℕ) → m ≤ n → length (ascending_between s 0 n) ≡ length (ascending_between s 0 m) + length (ascending_between s m n)
 count_split s m n within = ap length (ascending_split s 0 m n (omega arith) within) ∙ length-append (ascending_between s 0 m) (ascending_between s m n)

@@ -1,10 +1,10 @@
 -- The members of a set, 64 names at a time.
-use Rattle.std.specs.Prelude.{◌≡◌, ℕ, zero, suc, ◌+◌, ◌-◌, ◌*◌, ◌/◌, ◌%◌, ◌<◌, ◌≤◌, max, cond, ◌&&◌, ◌==◌, nat_le, List, [], ◌∷◌, ◌++◌, length, refl}
+use Rattle.std.specs.Prelude.{◌≡◌, ℕ, ◌+◌, ◌-◌, ◌*◌, ◌/◌, ◌<◌, ◌≤◌, max, cond, ◌==◌, nat_le, List, [], ◌∷◌, ◌++◌, length}
 use Rattle.std.specs.Int.{bit_at}
 use Rattle.std.specs.List.{All}
 use Rattle.std.specs.Option.{option_map_or}
-use Rattle.std.proofs.Common.{subst, ap, sym, ◌∙◌, arith, inl, inr, append_assoc, length-append}
-use Rattle.std.proofs.lemmas.Bool.{cases_lt, le-leb, lt-leb, false_from_ne_true}
+use Rattle.std.proofs.Common.{subst, ap, sym, ◌∙◌, arith, append_assoc}
+use Rattle.std.proofs.lemmas.Bool.{false_from_ne_true}
 use Rattle.std.proofs.lemmas.List.Elements.{All-head, All-tail, All-weaker}
 use Rattle.std.proofs.lemmas.Option.{slice_get-get_or}
 use Rattle.std.specs.FinSet as set
@@ -14,51 +14,28 @@ use Rattle.md_graph.specs.NameSet.{ascending_between}
 use Rattle.md_graph.specs.PlainGraph.{PlainGraph, IsGraph, neighbours}
 use Rattle.md_graph.specs.Words.{bits_between}
 use Rattle.md_graph.proofs.Limits.{NAMES-is}
-use Rattle.md_graph.proofs.MemberLists.{ascending_word, no_bits_of_zero}
 use Rattle.md_graph.proofs.NameLemmas.{IsItem, ascending_items, ascending_none, ascending_split}
 use Rattle.md_text.specs.Numbers.{decimal}
 use Rattle.md_text.proofs.ListLemmas.{All-front}
 use Rattle.md_text.specs.declared.piece.Piece.{Piece}
+use Rattle.md_blocks.proofs.BlockLemmas.{word_is}
 use Rattle.md_dimacs.specs.Text.{position}
 use Rattle.md_text.specs.Pieces.{piece_text, text_at, texts_at}
 use Rattle.md_dimacs.specs.Places.{IsPlaceOf, ArePlaces, line_start, vertex_lines}
-use Rattle.md_dimacs.proofs.AscendingLemmas.{at_most_one_more, nothing_below, neighbour_is_vertex}
+use Rattle.md_dimacs.proofs.AscendingLemmas.{neighbour_is_vertex}
 use Rattle.md_dimacs.proofs.TextLemmas.{row_lines, row_lines-nil, row_lines-cons, row_lines-append, row_text_is, row_end}
 
 -- ---- the bits of a word
 
-pub bits_count : (first bits n : ℕ) → length (bits_between first bits n) ≤ n
-unfolding bits_between
-bits_count first bits zero = omega arith
-bits_count first bits (suc n) = at_most_one_more (bits_between first bits n) (first + n) n (bit_at bits n == 1) (bits_count first bits n)
-
-kept_bit : (s : NameSet) (from first low bits masked k : ℕ) → low ≡ max from first → set.contains s (first + k) ≡ (bit_at bits k == 1)
-    → bit_at masked k ≡ cond (nat_le from (first + k)) (bit_at bits k) 0 → (bit_at masked k == 1) ≡ (nat_le low (first + k) && set.contains s (first + k))
-kept_bit s from first low bits masked k is_low has is =
-    elim (cases_lt (first + k) from) [
-      | inl under ↦
-          let out = lt-leb from (first + k) under in
-          let low_out = lt-leb low (first + k) (omega arith) in
-          ap (λ b. b == 1) (is ∙ ap (λ b. cond b (bit_at bits k) 0) out) ∙ sym (ap (λ b. b && set.contains s (first + k)) low_out)
-      | inr above ↦
-          let kept = le-leb from (first + k) above in
-          let low_kept = le-leb low (first + k) (omega arith) in
-          ap (λ b. b == 1) (is ∙ ap (λ b. cond b (bit_at bits k) 0) kept) ∙ sym (ap (λ b. b && set.contains s (first + k)) low_kept ∙ has)
-    ]
-
 -- the members from low on: those of one word, and the others
 pub block_split : (s : NameSet) (from first bits masked : ℕ) → from < first + 64 → first + 64 ≤ NAMES
-    → ((k : ℕ) → k < 64 → set.contains s (first + k) ≡ (bit_at bits k == 1)) → ((k : ℕ) → k < 64 → bit_at masked k ≡ cond (nat_le from (first + k)) (bit_at bits k) 0)
+    → ((k : ℕ) → k < 64 → set.contains s (first + k) ≡ (bit_at bits k == 1)) → ((k : ℕ) → k < 64 → bit_at masked k ≡ cond (nat_le (from - first) k) (bit_at bits k) 0)
     → ascending_between s (max from first) NAMES ≡ bits_between first masked 64 ++ ascending_between s (max from (first + 64)) NAMES
 block_split s from first bits masked within named has is =
-    let low = max from first in
+    let low : max from first ≡ first + (from - first) = omega arith in
     let next : first + 64 ≡ max from (first + 64) = omega arith in
-    ascending_split s low (first + 64) NAMES (omega arith) named
-    ∙ (λ i. (ascending_word s low first masked 64 (λ k h. kept_bit s from first low bits masked k refl (has k h) (is k h)) ∙ ap (λ l. l ++ bits_between first masked 64) (nothing_below s low first (omega arith))) i ++ ascending_between s (next i) NAMES)
-
--- a name at the front of a word that isn't behind all names
-pub word_fits : (first : ℕ) → first % 64 ≡ 0 → first < NAMES → first + 64 ≤ NAMES
-word_fits first aligned below = let whole = NAMES-is in omega arith
+    ascending_split s (max from first) (first + 64) NAMES (omega arith) named
+    ∙ (λ i. (ap (λ l. ascending_between s l (first + 64)) low ∙ word_is s first (from - first) bits masked has is) i ++ ascending_between s (next i) NAMES)
 
 -- ---- the lines of a word
 
@@ -111,44 +88,6 @@ pub block_start : (g : PlainGraph) (v from first : ℕ) → from ≡ v + 1 → f
 block_start g v from first is within =
     let low : max from first ≡ v + 1 = omega arith in
     row_text_is g v (ascending_between (neighbours g v) (max from first) NAMES) (ap (λ k. ascending_between (neighbours g v) k NAMES) low)
-
--- ---- the loop over the bits of a word
-
-pub rest_there : (n : ℕ) (x : ℕ) (xs ys : List ℕ) → ys ≡ x ∷ xs → All (λ w. w < n) ys → All (λ w. w < n) xs
-rest_there n x xs ys e all = All-tail (λ w. w < n) x xs (subst (All (λ w. w < n)) e all)
-
-pub first_there : (n : ℕ) (x : ℕ) (xs ys : List ℕ) → ys ≡ x ∷ xs → All (λ w. w < n) ys → x < n
-first_there n x xs ys e all = All-head (λ w. w < n) x xs (subst (All (λ w. w < n)) e all)
-
-pub no_bits_left : (first left : ℕ) → left ≡ 0 → bits_between first left 64 ≡ []
-no_bits_left first left e = ap (λ b. bits_between first b 64) e ∙ no_bits_of_zero first 64
-
-pub shorter : (x : ℕ) (xs ys : List ℕ) → ys ≡ x ∷ xs → length ys ≡ length xs + 1
-shorter x xs ys e = let l = ap length e in omega arith
-
--- ---- four lines at a time
-
-pub texts_append : (pieces : List Piece) (first xs ys : List ℕ) → texts_at pieces first (xs ++ ys) ≡ texts_at pieces first xs ++ texts_at pieces first ys
-unfolding texts_at
-texts_append pieces first [] ys = refl
-texts_append pieces first (x ∷ xs) ys =
-    ap (λ l. (first ++ text_at pieces x) ++ l) (texts_append pieces first xs ys) ∙ sym (append_assoc (first ++ text_at pieces x) (texts_at pieces first xs) (texts_at pieces first ys))
-
-pub four_more : (pieces : List Piece) (start held placed total xs four rest : List ℕ) → held ++ texts_at pieces start xs ≡ total → xs ≡ four ++ rest →
-    placed ≡ held ++ texts_at pieces start four → placed ++ texts_at pieces start rest ≡ total
-four_more pieces start held placed total xs four rest before cut more =
-    ap (λ l. l ++ texts_at pieces start rest) more ∙ append_assoc held (texts_at pieces start four) (texts_at pieces start rest)
-    ∙ ap (λ l. held ++ l) (sym (ap (texts_at pieces start) cut ∙ texts_append pieces start four rest)) ∙ before
-
-pub four_shorter : (xs four rest : List ℕ) → length four ≡ 4 → xs ≡ four ++ rest → length xs ≡ 4 + length rest
-four_shorter xs four rest long cut = let l = ap length cut ∙ length-append four rest in omega arith
-
-pub same_part : (bits first from k : ℕ) → first < from → cond (nat_le (from - first) k) (bit_at bits k) 0 ≡ cond (nat_le from (first + k)) (bit_at bits k) 0
-same_part bits first from k h =
-    elim (cases_lt (first + k) from) [
-      | inl under ↦ (λ i. cond (lt-leb (from - first) k (omega arith) i) (bit_at bits k) 0) ∙ sym (λ i. cond (lt-leb from (first + k) under i) (bit_at bits k) 0)
-      | inr above ↦ (λ i. cond (le-leb (from - first) k (omega arith) i) (bit_at bits k) 0) ∙ sym (λ i. cond (le-leb from (first + k) above i) (bit_at bits k) 0)
-    ]
 
 -- the front of the word of the name behind v
 pub names_after : (v : ℕ) → v < NAMES → (v + 1) / 64 * 64 ≤ NAMES

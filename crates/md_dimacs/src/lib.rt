@@ -4,7 +4,6 @@
 //! writes a graph as a file.
 #![tactic(auto)]
 
-mod blocks;
 mod fault;
 pub mod laws;
 mod line;

@@ -5,8 +5,8 @@ ghost use Rattle.md_text.specs.Pieces.{piece_text};
 ghost use Rattle.md_graph.specs.Sets.{Has};
 ghost use Rattle.md_dimacs.specs.Places.{ArePlaces, line_start, vertex_lines, edges_text};
 
-use crate::blocks::{bits_from, write_block};
 use crate::spelling::start_piece;
+use md_blocks::{bits_from, write_block};
 use md_graph::{GraphOf, Memory, NAMES};
 use md_text::{Chunk, Piece, number_piece, piece_behind, push_number};
 use std::alloc::Global;
@@ -114,7 +114,7 @@ fn write_row<const W: usize>(
     let mut first = from / 64 * 64;
     while (first as usize) < places.len() {
         chunk.make_room(16 * 64, text)?;
-        let bits = bits_from(row.block(first), first, from);
+        let bits = bits_from(row.block(first), from.saturating_sub(first));
         write_block(first, bits, start, places, chunk);
         first += 64;
     }

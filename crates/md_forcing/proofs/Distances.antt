@@ -1,8 +1,8 @@
 -- How far the arcs of a class are from the first, and that no list is shorter than its last arc is far.
-use Rattle.std.proofs.Common.{◌≡◌, ℕ, zero, suc, ◌+◌, ◌<◌, ◌≤◌, Bool, List, [], ◌∷◌, length, slice_get, Some, refl, sym, ◌∙◌, ap, subst, inl, inr, arith}
+use Rattle.std.proofs.Common.{◌≡◌, ℕ, zero, suc, ◌+◌, ◌<◌, ◌≤◌, Bool, List, [], ◌∷◌, length, slice_get, Some, sym, ◌∙◌, ap, subst, inl, inr, arith}
 use Rattle.std.proofs.lemmas.Bool.{cases_lt}
 use Rattle.md_forcing.specs.declared.arc.Arc.{Arc}
-use Rattle.md_forcing.specs.Forcing.{IsArc, ForcesDirectly, Leads, Reaches}
+use Rattle.md_forcing.specs.Forcing.{ForcesDirectly, Leads}
 use Rattle.md_forcing.specs.Classes.{IsAtDistance, IsClass}
 use Rattle.md_forcing.proofs.ListLemmas.{get_some, key_at, one_place, place_of_key, place_within, same_some}
 use Rattle.md_forcing.proofs.Reaching.{reaches_step}

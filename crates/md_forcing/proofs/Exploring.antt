@@ -1,5 +1,5 @@
 -- How far the exploration of a class has come: the arcs at the first places have handed on what they force.
-use Rattle.std.proofs.Common.{◌≡◌, ◌⊎◌, ◌↔◌, ℕ, zero, suc, ◌+◌, ◌*◌, ◌<◌, ◌≤◌, Bool, true, List, [], ◌∷◌, ◌++◌, map, length, slice_get, Some, refl, sym, ◌∙◌, ap, subst, inl, inr, arith}
+use Rattle.std.proofs.Common.{◌≡◌, ◌⊎◌, ◌↔◌, ℕ, zero, suc, ◌+◌, ◌*◌, ◌<◌, ◌≤◌, Bool, true, List, [], ◌∷◌, ◌++◌, map, length, slice_get, Some, refl, sym, ◌∙◌, ap, subst, append-nil, inl, inr, arith}
 use Rattle.std.proofs.lemmas.Bool.{cases_Bool, cases_lt}
 use Rattle.std.specs.FinSet as set
 use Rattle.std.specs.Map.{keys_of}
@@ -268,3 +268,18 @@ module _ (e : ℕ → ℕ → Bool) (first : Arc) (start : List NameSet) where
             | inl old ↦ (before.seen b).1 (inl (closed a b old is f))
             | inr k ↦ handed_on a b k is f
           ]
+
+-- an arc that forces none but seen ones is explored at once
+pub exploring_alone : (e : ℕ → ℕ → Bool) (first : Arc) (start : List NameSet) → IsArc e first → (HasArc start first → ⊥) → (rows : List NameSet) (es : List (Arc × ℕ)) → ((a : Arc) → HasArc rows a ↔ (HasArc start a ⊎ (a ≡ first))) → es ≡ (first, 0) ∷ [] → ((b : Arc) → IsArc e b → ForcesDirectly e first b → HasArc rows b) → Exploring e first start rows es 1
+exploring_alone e first start is fresh rows es taken made all =
+    let before = exploring_start e first start is fresh rows es taken made in
+    exploring_more e first start rows rows es es 0 before (record {
+      by = first;
+      its_place = 0;
+      stands = before.begins;
+      more = [];
+      longer = sym (append-nil es);
+      once = tt;
+      exactly = λ b. (λ h. absurd h, λ p. absurd (p.2 (all b p.0 p.1)));
+      taken = λ b. (λ h. inl h, λ p. elim p [ inl h ↦ h | inr h ↦ absurd h ]);
+    })

@@ -1,5 +1,5 @@
 -- The places of a class followed from an arc back to the first.
-use Rattle.std.proofs.Common.{◌≡◌, ℕ, suc, ◌+◌, ◌<◌, ◌≤◌, Bool, List, [], ◌∷◌, ◌++◌, length, slice_get, Some, Option, refl, sym, ◌∙◌, ap, subst, inl, inr, arith, length-append, reverse as back_to_front}
+use Rattle.std.proofs.Common.{◌≡◌, ℕ, suc, ◌+◌, ◌<◌, Bool, List, [], ◌∷◌, ◌++◌, length, slice_get, Some, Option, refl, sym, ◌∙◌, ap, subst, inl, inr, arith, length-append, reverse as back_to_front}
 use Rattle.std.proofs.lemmas.List.{reverse-append, length-reverse}
 use Rattle.md_forcing.specs.declared.arc.Arc.{Arc}
 use Rattle.md_forcing.specs.Lists.{Holds, NoRepeats}

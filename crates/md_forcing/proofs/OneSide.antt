@@ -1,9 +1,9 @@
 -- The two sides of a graph: where their arcs end, and which names one end sees and the other doesn't.
-use Rattle.std.proofs.Common.{◌≡◌, ◌≢◌, ◌↔◌, ℕ, ◌<◌, Bool, true, false, not, ◌&&◌, ◌||◌, ◌==◌, List, refl, sym, ◌∙◌, ap, subst}
+use Rattle.std.proofs.Common.{◌≡◌, ◌≢◌, ◌↔◌, ℕ, ◌<◌, Bool, true, false, not, ◌&&◌, ◌||◌, ◌==◌, List, refl, sym, ◌∙◌, ap, subst, inl, inr}
 use Rattle.std.proofs.lemmas.Bool.{false_from_ne_true, ne_eqb, eqb-true, and_parts, not-true}
 use Rattle.std.specs.FinSet as set
 use Rattle.md_graph.specs.declared.TheConstants.{NAMES}
-use Rattle.md_graph.specs.Sets.{NameSet, Has}
+use Rattle.md_graph.specs.Sets.{NameSet, Has, Within}
 use Rattle.md_graph.specs.PlainGraph.{PlainGraph, IsGraph, adjacent, neighbours, complement}
 use Rattle.md_graph.specs.Rows.{row_of}
 use Rattle.md_graph.proofs.SetLaws.{contains-difference, contains-union}
@@ -12,7 +12,7 @@ use Rattle.md_graph.proofs.SetLemmas.{clash}
 use Rattle.md_forcing.specs.declared.arc.Arc.{Arc}
 use Rattle.md_forcing.specs.declared.arc_set.Side.{Side}
 use Rattle.md_forcing.specs.declared.arc_set.Side.TheVariants.{Edges, NonEdges}
-use Rattle.md_forcing.specs.Forcing.{arc, IsArc, ForceAtTail, ForceAtHead}
+use Rattle.md_forcing.specs.Forcing.{arc, IsArc, ForceAtTail, ForceAtHead, ForcesDirectly}
 use Rattle.md_forcing.specs.Sides.{adjacent_on}
 use Rattle.md_forcing.specs.ArcSet.{HasArc}
 
@@ -128,3 +128,34 @@ unseen_at_head e symmetric rows by known is seen into alone w = (
       (symmetric w by.head ∙ p.0, (refl, λ same. clash (subst (λ u. Has (row_of rows u) by.head) same seen) unseen, p.1), λ s. clash s unseen),
   λ q. (alone w).1 (symmetric by.head w ∙ q.0, q.1.2, is w ∙ false_from_ne_true _ q.2),
 )
+
+-- ---- where all that is forced is seen
+
+pub none_beside : (s t : NameSet) → Within s t → (w : ℕ) → Has (set.difference s t) w → ⊥
+none_beside s t within w h =
+    let parts = and_parts (set.contains s w) (not (set.contains t w)) (sym (contains-difference s t w) ∙ h) in
+    clash (within w parts.0) (not-true _ parts.1)
+
+true_if : (b : Bool) → (b ≡ false → ⊥) → b ≡ true
+true_if true never = refl
+true_if false never = absurd (never refl)
+
+module _ (e : ℕ → ℕ → Bool) (symmetric : (u v : ℕ) → e u v ≡ e v u) (rows : List NameSet) (by : Arc) (seen : HasArc rows by)
+    (heads tails : NameSet) (is_heads : heads ≡ row_of rows by.tail) (is_tails : (u : ℕ) → set.contains tails u ≡ set.contains (row_of rows u) by.head)
+    (at_tail at_head : NameSet) (alone_tail : AllAlone e heads by.tail by.head at_tail) (alone_head : AllAlone e tails by.head by.tail at_head)
+    (none_tail : (w : ℕ) → Has at_tail w → ⊥) (none_head : (w : ℕ) → Has at_head w → ⊥) where
+  seen_at_tail : (b : Arc) → IsArc e b → ForceAtTail e by b → HasArc rows b
+  seen_at_tail b is force =
+      let here : e by.tail b.head ≡ true = subst (λ u. e u b.head ≡ true) (sym force.0) is in
+      subst (λ u. Has (row_of rows u) b.head) force.0
+      (true_if _ (λ unseen. none_tail b.head ((unseen_at_tail e rows by heads is_heads seen at_tail alone_tail b.head).1 (here, (refl, force.1, force.2), λ h. clash h unseen))))
+
+  seen_at_head : (b : Arc) → IsArc e b → ForceAtHead e by b → HasArc rows b
+  seen_at_head b is force =
+      let here : e b.tail by.head ≡ true = subst (λ u. e b.tail u ≡ true) (sym force.0) is in
+      subst (λ u. Has (row_of rows b.tail) u) force.0
+      (true_if _ (λ unseen. none_head b.tail ((unseen_at_head e symmetric rows by tails is_tails seen at_head alone_head b.tail).1 (here, (refl, force.1, force.2), λ h. clash h unseen))))
+
+  pub forced_seen : (b : Arc) → IsArc e b → ForcesDirectly e by b → HasArc rows b
+  forced_seen b is (inl force) = seen_at_tail b is force
+  forced_seen b is (inr force) = seen_at_head b is force

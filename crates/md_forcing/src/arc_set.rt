@@ -4,7 +4,7 @@ ghost use Rattle.std.specs.FinSet as set;
 ghost use Rattle.md_graph.specs.Sets.{Has};
 ghost use Rattle.md_graph.specs.Rows.{row_of};
 ghost use Rattle.md_forcing.specs.declared.arc.Arc.{Arc};
-ghost use Rattle.md_forcing.specs.Forcing.{arc, IsArc, ForceAtTail, ForceAtHead};
+ghost use Rattle.md_forcing.specs.Forcing.{arc, IsArc, ForceAtTail, ForceAtHead, ForcesDirectly};
 ghost use Rattle.md_forcing.specs.Sides.{adjacent_on};
 ghost use Rattle.md_forcing.specs.ArcSet.{HasArc};
 
@@ -159,6 +159,26 @@ impl<const W: usize> ArcSetOf<W> {
     {
         let _rows = &self.by_head;
         apart(graph, side, by.head, by.tail, self.tails(by.head), into);
+    }
+
+    // Whether the set has all arcs that `by` forces directly. Condition: `by` is an arc of this
+    // side, and in the set.
+    pub(crate) fn has_forced_by(&self, graph: &GraphOf<W>, side: Side, by: Arc) -> bool
+        requires is_arc { IsArc (adjacent_on side graph.now) by }
+        requires seen { HasArc self.now by }
+        ensures { result ≡ true → (b : Arc) → IsArc (adjacent_on side graph.now) b
+            → ForcesDirectly (adjacent_on side graph.now) by b → HasArc self.now b }
+    {
+        let _vertices = graph.vertices();
+        let _rows = &self.by_head;
+        let near = graph.neighbours(by.tail);
+        let far = graph.neighbours(by.head);
+        let heads = self.heads(by.tail);
+        let tails = self.tails(by.head);
+        match side {
+            Side::Edges => near.is_apart_as_known(heads, far, tails),
+            Side::NonEdges => far.is_apart_as_known(heads, near, tails),
+        }
     }
 }
 

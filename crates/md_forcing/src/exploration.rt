@@ -52,52 +52,55 @@ pub fn trail_of<const W: usize>(
 {
     let _vertices = graph.vertices();
     let seen = ArcSetOf::with_size(alloc, graph.bound())?;
-    let none = Explored {
+    let mut explored = Explored {
         seen,
         trail: ForcingTree::new(alloc),
     };
-    let explored = explore(alloc, graph, Side::Edges, first, none)?;
+    explore(graph, Side::Edges, first, &mut explored)?;
     Ok(explored.trail)
 }
 
 /// Makes the trail that of `first` in the graph or in its complement: the arcs of its class, which
 /// join the seen arcs. The trail takes the memory. Conditions: `first` is an arc of this side that
 /// isn't seen; the seen arcs have room for the vertices, and with an arc all that it forces are
-/// seen. Errors: want of memory; what was explored is given up then.
+/// seen. One that forces none makes no set. Errors: want of memory; the seen arcs and the trail are
+/// of no use then, and keep their room.
+// Never inlined, so that its turns have the registers to themselves.
+#[inline(never)]
 pub fn explore<const W: usize>(
-    _alloc: Global,
     graph: &GraphOf<W>,
     side: Side,
     first: Arc,
-    explored: Explored<W>,
-) -> Result<Explored<W>, Memory>
-    requires room { (v : ℕ) → Has graph.now.vertices v → v < length explored.seen }
+    explored: &mut Explored<W>,
+) -> Result<(), Memory>
+    requires room { (v : ℕ) → Has graph.now.vertices v → v < length explored.old.seen }
     requires is_arc { IsArc (adjacent_on side graph.now) first }
-    requires fresh { HasArc explored.seen first → ⊥ }
-    requires closed { IsForcingClosed (adjacent_on side graph.now) explored.seen }
-    ensures class { IfOk result (λ r. IsClass (adjacent_on side graph.now) first r.trail) }
-    ensures taken { IfOk result (λ r. TakesClass explored.entry.seen r.trail r.seen) }
-    ensures closed { IfOk result (λ r. IsForcingClosed (adjacent_on side graph.now) r.seen) }
-    ensures room { IfOk result (λ r. length r.seen ≡ length explored.entry.seen) }
+    requires fresh { HasArc explored.old.seen first → ⊥ }
+    requires closed { IsForcingClosed (adjacent_on side graph.now) explored.old.seen }
+    ensures class { OnOk result (IsClass (adjacent_on side graph.now) first explored.new.trail) }
+    ensures taken { OnOk result
+        (TakesClass explored.old.seen explored.new.trail explored.new.seen) }
+    ensures closed { OnOk result
+        (IsForcingClosed (adjacent_on side graph.now) explored.new.seen) }
+    ensures room { length explored.new.seen ≡ length explored.old.seen }
 {
     let _vertices = graph.vertices();
-    let Explored {
-        mut seen,
-        mut trail,
-    } = explored;
-    trail.clear();
-    trail.push(first, 0)?;
-    seen.put(first);
+    explored.trail.clear();
+    explored.trail.push(first, 0)?;
+    explored.seen.put(first);
+    if explored.seen.has_forced_by(graph, side, first) {
+        return Ok(());
+    }
     let mut found = Found {
         heads: Set::none(),
         tails: Set::none(),
     };
     let mut at = 0usize;
-    while (at as u64) < trail.len() {
-        turn(graph, side, at, &mut seen, &mut trail, &mut found)?;
+    while (at as u64) < explored.trail.len() {
+        turn(graph, side, at, explored, &mut found)?;
         at += 1;
     }
-    Ok(Explored { seen, trail })
+    Ok(())
 }
 
 // Takes in the arcs that the arc at a place forces directly and that aren't seen. Condition: the
@@ -106,22 +109,24 @@ fn turn<const W: usize>(
     graph: &GraphOf<W>,
     side: Side,
     at: usize,
-    seen: &mut ArcSetOf<W>,
-    trail: &mut ForcingTree,
+    explored: &mut Explored<W>,
     found: &mut Found<W>,
 ) -> Result<(), Memory>
-    requires room { (v : ℕ) → Has graph.now.vertices v → v < length seen.old }
-    requires more { at < length trail.old }
+    requires room { (v : ℕ) → Has graph.now.vertices v → v < length explored.old.seen }
+    requires more { at < length explored.old.trail }
     requires few { at < 2 ^ 32 }
-    requires arcs { (a : Arc) → Holds (keys_of trail.old) a → IsArc (adjacent_on side graph.now) a }
-    requires seen { (a : Arc) → Holds (keys_of trail.old) a → HasArc seen.old a }
-    ensures taken { OnOk result
-        (TakesForced (adjacent_on side graph.now) at seen.old trail.old seen.new trail.new) }
-    ensures room { length seen.new ≡ length seen.old }
+    requires arcs { (a : Arc) → Holds (keys_of explored.old.trail) a
+        → IsArc (adjacent_on side graph.now) a }
+    requires seen { (a : Arc) → Holds (keys_of explored.old.trail) a
+        → HasArc explored.old.seen a }
+    ensures taken { OnOk result (TakesForced (adjacent_on side graph.now) at
+        explored.old.seen explored.old.trail explored.new.seen explored.new.trail) }
+    ensures room { length explored.new.seen ≡ length explored.old.seen }
 {
     let _vertices = graph.vertices();
-    let (by, _) = trail.entry(at);
+    let (by, _) = explored.trail.entry(at);
     let place = at as u32;
+    let Explored { seen, trail } = explored;
     seen.unseen_heads(graph, side, by, &mut found.heads);
     seen.unseen_tails(graph, side, by, &mut found.tails);
     seen.take_heads(by.tail, &found.heads);

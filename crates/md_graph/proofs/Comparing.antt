@@ -18,7 +18,7 @@ pub within_or : (a b i : ℕ) → bit_or a b ≡ b → bit_at a i ≤ bit_at b i
 within_or a b i is = let same : max (bit_at a i) (bit_at b i) ≡ bit_at b i = sym (bit_at_or a b i) ∙ ap (λ w. bit_at w i) is in omega arith
 
 -- bit i of word k is name 64 * k + i
-bit_is_name : (words : List ℕ) (n w k i : ℕ) (s : NameSet) → names_below words n ≡ s → n ≡ 64 * w → k < w → i < 64 → set.contains s (64 * k + i) ≡ (bit_at (get_or words k 0) i == 1)
+pub bit_is_name : (words : List ℕ) (n w k i : ℕ) (s : NameSet) → names_below words n ≡ s → n ≡ 64 * w → k < w → i < 64 → set.contains s (64 * k + i) ≡ (bit_at (get_or words k 0) i == 1)
 bit_is_name words n w k i s is whole within h =
     let word : 64 * k / 64 ≡ k = omega arith in
     block_of_word words n w (64 * k) s is whole (omega arith) (omega arith) i h ∙ ap (λ j. bit_at (get_or words j 0) i == 1) word

@@ -15,6 +15,7 @@ pub mod BlockRows
 mod FirstPlace
 pub mod LastPlace
 pub mod Comparing
+pub mod Covering
 pub mod Ranges
 mod ListedLemmas
 pub mod Walks

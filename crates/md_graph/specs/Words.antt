@@ -1,6 +1,6 @@
 -- The set that words of bits keep: name v is bit v % 64 of word v / 64.
 -- Source: a finite set as a vector of bits, as in any textbook on data structures.
-use Rattle.std.specs.Prelude.{◌≡◌, ◌<◌, min, ℕ, zero, suc, ◌+◌, ◌-◌, ◌/◌, ◌%◌, ◌*◌, List, [], ◌∷◌, ◌++◌, get_or, if◌then◌else◌, ◌==◌}
+use Rattle.std.specs.Prelude.{◌≡◌, ◌<◌, ◌≤◌, min, ℕ, zero, suc, ◌+◌, ◌-◌, ◌/◌, ◌%◌, ◌*◌, List, [], ◌∷◌, ◌++◌, get_or, if◌then◌else◌, ◌==◌}
 use Rattle.std.specs.Int.{bit_at}
 use Rattle.std.specs.FinSet as set
 use Rattle.md_graph.specs.Sets.{NameSet}
@@ -17,6 +17,10 @@ bit_apart words first second v = min (bit_of words v) ((bit_of first v + bit_of 
 abbrev pub IsWithout : ℕ → ℕ → ℕ → Type 0
 IsWithout word first second = (k : ℕ) → k < 64 →
     bit_at word k ≡ min (bit_at first k) (1 - bit_at second k)
+
+-- each of the low 64 bits of `first` is one of `second`
+abbrev pub AreBitsAmong : ℕ → ℕ → Type 0
+AreBitsAmong first second = (k : ℕ) → k < 64 → bit_at first k ≤ bit_at second k
 
 -- the names below `bound` whose bit is 1
 unfoldable pub names_below : List ℕ → ℕ → NameSet

@@ -7,9 +7,9 @@ ghost use Rattle.md_graph.specs.NameSet.{IsLeastFrom, IsGreatest, NoneFrom, AllB
 
 use crate::members::Members;
 use crate::words::{
-    are_all_zero, are_equal, are_within, become_both, become_either, become_first_alone,
-    bits_of_range, count_bits, first_apart, first_place, flip_bits, from_place, join_in,
-    keep_alone, last_place, move_alone, move_apart, move_both, no_words, used_if, wipe,
+    are_all_zero, are_apart_as_known, are_equal, are_within, become_both, become_either,
+    become_first_alone, bits_of_range, count_bits, first_apart, first_place, flip_bits, from_place,
+    join_in, keep_alone, last_place, move_alone, move_apart, move_both, no_words, used_if, wipe,
 };
 use crate::{NAMES, WORDS};
 use std::marker::Model;
@@ -323,6 +323,21 @@ impl<const W: usize> Set<W> {
         ensures exactly { IsTrue result ↔ Within self.now other.now }
     {
         are_within(&self.words, &other.words, words_passed::<W>(self.used))
+    }
+
+    /// Whether each member is in `other` or in `known`, and each of `other` here or in
+    /// `other_known`. It passes over the words in use of both.
+    pub fn is_apart_as_known(&self, known: &Set<W>, other: &Set<W>, other_known: &Set<W>) -> bool
+        ensures exactly { IsTrue result ↔ (Within self.now (set.union other.now known.now)
+            × Within other.now (set.union self.now other_known.now)) }
+    {
+        are_apart_as_known(
+            &self.words,
+            &known.words,
+            &other.words,
+            &other_known.words,
+            words_passed::<W>(self.used).max(words_passed::<W>(other.used)),
+        )
     }
 
     /// Whether `other` has the same ones of these names.

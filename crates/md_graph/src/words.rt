@@ -2,7 +2,7 @@
 ghost use Rattle.std.specs.Prelude.{◌≡◌, nat_le, nat_lt, ◌&&◌, if◌then◌else◌, ◌≢◌, ◌∷◌, ℕ, length, slice_index, bit_and, bit_or, bit_xor, ◌+◌, ◌*◌, ◌^◌, ◌<◌, ◌≤◌, ◌↔◌, IsTrue, IfSome, IfNone, ◌==◌};
 ghost use Rattle.std.specs.Int.{bit_at};
 ghost use Rattle.std.specs.FinSet as set;
-ghost use Rattle.md_graph.specs.Words.{IsWithout, bit_of, names_below, bits_between, bit_apart};
+ghost use Rattle.md_graph.specs.Words.{AreBitsAmong, IsWithout, bit_of, names_below, bits_between, bit_apart};
 
 use crate::{NAMES, WORDS};
 
@@ -332,6 +332,35 @@ pub(crate) fn are_within(first: &[u64], second: &[u64], used: usize) -> bool
         }
     }
     true
+}
+
+// Whether in the first `used` words `first` has no bit that neither `second` nor `first_known` has,
+// and `second` none that neither `first` nor `second_known` has.
+pub(crate) fn are_apart_as_known(
+    first: &[u64],
+    first_known: &[u64],
+    second: &[u64],
+    second_known: &[u64],
+    used: usize,
+) -> bool
+    requires first { used ≤ length first.now }
+    requires first_known { used ≤ length first_known.now }
+    requires second { used ≤ length second.now }
+    requires second_known { used ≤ length second_known.now }
+    ensures { IsTrue result ↔ ((k : ℕ) → k < used
+        → AreBitsAmong (slice_index first.now k)
+        (bit_or (slice_index second.now k) (slice_index first_known.now k))
+        × AreBitsAmong (slice_index second.now k)
+        (bit_or (slice_index first.now k) (slice_index second_known.now k))) }
+{
+    let mut unknown = 0;
+    for i in 0..used {
+        let of_second = second[i] | first_known[i];
+        let of_first = first[i] | second_known[i];
+        unknown |= (first[i] | of_second) ^ of_second;
+        unknown |= (second[i] | of_first) ^ of_first;
+    }
+    unknown == 0
 }
 
 // Which of the names `first + k`, k below 64, are from `from` on and below `to`. Condition: one of

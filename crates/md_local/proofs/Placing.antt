@@ -16,7 +16,7 @@ use Rattle.md_tree.specs.Parts.{listed, below_node}
 use Rattle.md_tree.specs.Plain.{plain, trees_of}
 use Rattle.md_tree.proofs.Plain.{plain_is_leaf, plain_is_node}
 use Rattle.md_local.specs.Growing.{are_one_split, is_merged, in_place_of, all_in_place, AreOrdered}
-use Rattle.md_local.proofs.Ordering.{place_merged, place_kept, none_merged}
+use Rattle.md_local.proofs.Ordering.{place_kept, none_merged}
 
 -- ---- a node and its children
 
@@ -44,9 +44,6 @@ pub node_appended : (t : TreeOf Kind Pair) (k : Kind) (cs : ChildrenOf Kind Pair
 node_appended t k cs ps xs ys is added = ap (map plain) added ∙ map-append plain xs (trees_of cs) ∙ ap (λ l. map plain xs ++ l) (sym (node_below t k cs ps is))
 
 -- ---- one tree is put
-
-pub put_merged : (kind : Kind) (t : PlainTree) (b : Bool) (xs ys : List PlainTree) → b ≡ is_merged kind t → b ≡ true → ys ≡ xs ++ below_node t → ys ≡ xs ++ in_place_of kind t
-put_merged kind t b xs ys told holds added = added ∙ ap (λ l. xs ++ l) (sym (place_merged kind t (sym told ∙ holds)))
 
 pub put_kept : (kind : Kind) (t : TreeOf Kind Pair) (b : Bool) (xs ys : List (TreeOf Kind Pair)) → b ≡ is_merged kind (plain t) → b ≡ false → ys ≡ xs ++ t ∷ [] → map plain ys ≡ map plain xs ++ in_place_of kind (plain t)
 put_kept kind t b xs ys told fails added = ap (map plain) added ∙ map-append plain xs (t ∷ []) ∙ ap (λ l. map plain xs ++ l) (sym (place_kept kind (plain t) (sym told ∙ fails)))

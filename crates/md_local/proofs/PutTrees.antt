@@ -20,7 +20,7 @@ use Rattle.md_tree.specs.Parts.{PlainPart, name, inner, plain_part, part_of, par
 use Rattle.md_tree.specs.Stacks.{HasChildrenOf}
 use Rattle.md_tree.specs.Plain.{plain}
 use Rattle.md_tree.specs.WellFormed.{AreDisjoint, NoneOfKind, HasShape, IsCanonicalNode, IsCanonicalTree}
-use Rattle.md_tree.proofs.Folding.{row_listed, count_row}
+use Rattle.md_tree.proofs.Folding.{row_listed, length_listed}
 use Rattle.md_local.specs.Growing.{IsJoined, are_one_split, is_merged}
 use Rattle.md_local.specs.Substitution.{IsSubstituted, AreSubstituted, IsPartTurn, is_inner, tree_at, tree_or_leaf, standing_at}
 use Rattle.md_local.proofs.Joining.{prime_keeps}
@@ -77,12 +77,9 @@ mutual
 -- ---- parts
 
 -- a node's part tells how many children it has
-count_listed : (cs : PlainTrees) → count cs ≡ length (listed cs)
-count_listed cs = sym (ap count (row_listed cs)) ∙ count_row (listed cs)
-
 has_children : (p : PlainTree) (us : List PlainTree) → length (below_node p) ≤ length us → HasChildrenOf (part_of p) us
 has_children (leaf x) us enough = tt
-has_children (node k cs ps) us enough = let number = count_listed cs in omega arith
+has_children (node k cs ps) us enough = let number = length_listed cs in omega arith
 
 named_leaf : (p : PlainTree) (x : ℕ) → part_of p ≡ name x → p ≡ leaf x
 named_leaf (leaf v) x is = let h : name v ≡ name x = is in let same : v ≡ x = cc in ap leaf same
@@ -141,7 +138,7 @@ module _ (Fits : ℕ → PlainTree → Type 0) where
       (put_more ws us (leaf x) (place x) (subst (λ l. AreSubstituted Fits (row l) us) (append-nil ws) are) (fits x refl))
   put_over place ws (node k cs ps) us vs are fits put =
       let at : length us - count cs ≡ length ws =
-      (let all = put_length (ws ++ listed cs) us are in let both = length-append ws (listed cs) in let number = count_listed cs in omega arith) in
+      (let all = put_length (ws ++ listed cs) us are in let both = length-append ws (listed cs) in let number = length_listed cs in omega arith) in
       let back : AreSubstituted Fits (row (listed cs)) (drop (length ws) us) = put_back ws (listed cs) us are in
       let below : AreSubstituted Fits cs (drop (length us - count cs) us) =
       subst (λ n. AreSubstituted Fits cs (drop n us)) (sym at) (subst (λ l. AreSubstituted Fits l (drop (length ws) us)) (row_listed cs) back) in

@@ -22,7 +22,7 @@ use Rattle.md_local.specs.declared.growing.Growth.TheVariants.{Whole}
 use Rattle.md_local.specs.Changes.{IsLeastStrong}
 use Rattle.md_local.specs.Edits.{IsEdited}
 use Rattle.md_local.specs.Growing.{own_steps, names_between, IsOld, HasGrown, is_hanging, one_alone, IsGrownFrom}
-use Rattle.md_local.specs.Walks.{ahead}
+use Rattle.md_local.specs.Walks.{steps_ahead}
 use Rattle.md_local.proofs.Between.{between_least}
 use Rattle.md_local.proofs.Ways.{begin_ahead, weight_nodes}
 
@@ -56,7 +56,7 @@ module _ (g : PlainGraph) (u v : ℕ) (t : PlainTree) where
   -- ---- the steps
 
   pub steps_begin : (fs : List (Open Below)) (f : Open Below) (work : ℕ) → fs ≡ [] → plain f.tree.now ≡ t → map plain f.rest.now ≡ below_node t →
-      work + ahead (own_steps u v) (own_steps u v) fs f ≤ work + names_between u v t
+      work + steps_ahead (own_steps u v) (own_steps u v) fs f ≤ work + names_between u v t
   steps_begin fs f work none is all =
       let a = begin_ahead (own_steps u v) (own_steps u v) t fs f none is all in
       let b : names_between u v t ≡ own_steps u v t + sum_by (own_steps u v) (row_nodes_backward (row (below_node t))) = weight_nodes (own_steps u v) (own_steps u v) t in

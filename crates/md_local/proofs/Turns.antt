@@ -36,7 +36,7 @@ use Rattle.md_local.specs.declared.growing.Grown.{Grown}
 use Rattle.md_local.specs.declared.growing.Growth.{Growth}
 use Rattle.md_local.specs.declared.growing.Growth.TheVariants.{Whole, Hanging}
 use Rattle.md_local.specs.Changes.{AgreeOff}
-use Rattle.md_local.specs.Growing.{holds_both, some_holds_both, have_apart, own_steps, IsOld, AreHanging, HasGrown, is_hanging, one_alone, IsGrownFrom, AreGrownFrom, IsBelow, are_apart, IsJoined, added_to, gathered, quotient_names}
+use Rattle.md_local.specs.Growing.{holds_both, some_holds_both, have_apart, own_steps, IsOld, AreHanging, HasGrown, is_hanging, one_alone, IsGrownFrom, AreGrownFrom, IsGrownBelow, are_apart, IsJoined, added_to, gathered, quotient_names}
 use Rattle.md_local.specs.Substitution.{IsOverQuotient}
 use Rattle.md_local.proofs.Ordering.{child_of_in, in_of_child, head_least}
 use Rattle.md_local.proofs.Joining.{AreTrees, only_in, joined_tree}
@@ -516,8 +516,8 @@ module _ (g : PlainGraph) (u v : ℕ) where
   any_more : (f : Grown → Bool) (xs : List Grown) (x : Grown) → list_any f (xs ++ x ∷ []) ≡ (list_any f xs || f x)
   any_more f xs x = list_any-append f xs (x ∷ []) ∙ ap (λ b. list_any f xs || b) (or_false (f x))
 
-  pub below_more : (ts : List PlainTree) (t : PlainTree) (old new : Below) (x : Grown) → IsBelow g u v ts old → IsGrownFrom g u v t x → map plain new.list.items ≡ added_to (map plain old.list.items) x.growth →
-      new.left ≡ (old.left || x.left) → new.right ≡ (old.right || x.right) → new.both ≡ (old.both || (x.left && x.right)) → IsBelow g u v (ts ++ t ∷ []) new
+  pub below_more : (ts : List PlainTree) (t : PlainTree) (old new : Below) (x : Grown) → IsGrownBelow g u v ts old → IsGrownFrom g u v t x → map plain new.list.items ≡ added_to (map plain old.list.items) x.growth →
+      new.left ≡ (old.left || x.left) → new.right ≡ (old.right || x.right) → new.both ≡ (old.both || (x.left && x.right)) → IsGrownBelow g u v (ts ++ t ∷ []) new
   below_more ts t old new x is grown more l r b = record {
     grown = is.grown ++ x ∷ [];
     each = grown_more ts is.grown t x is.each grown;
@@ -527,8 +527,8 @@ module _ (g : PlainGraph) (u v : ℕ) where
     both = b ∙ ap (λ c. c || (x.left && x.right)) is.both ∙ sym (any_more (λ y. y.left && y.right) is.grown x);
   }
 
-  pub below_leaf : (ts : List PlainTree) (name : ℕ) (old new : Below) → IsBelow g u v ts old → (eqb name u || eqb name v) ≡ false → new.list.items ≡ old.list.items ++ Leaf name ∷ [] →
-      new.left ≡ old.left → new.right ≡ old.right → new.both ≡ old.both → IsBelow g u v (ts ++ leaf name ∷ []) new
+  pub below_leaf : (ts : List PlainTree) (name : ℕ) (old new : Below) → IsGrownBelow g u v ts old → (eqb name u || eqb name v) ≡ false → new.list.items ≡ old.list.items ++ Leaf name ∷ [] →
+      new.left ≡ old.left → new.right ≡ old.right → new.both ≡ old.both → IsGrownBelow g u v (ts ++ leaf name ∷ []) new
   below_leaf ts name old new is other push l r b =
       let no_left : eqb name u ≡ false = (none_of (eqb name u) (eqb name v) other).0 in
       let no_right : eqb name v ≡ false = (none_of (eqb name u) (eqb name v) other).1 in
@@ -542,7 +542,7 @@ module _ (g : PlainGraph) (u v : ℕ) where
       none_of true b h = absurd (false≢true (sym h))
       none_of false b h = (refl, h)
 
-  pub below_apart : (ts : List PlainTree) (below : Below) (is : IsBelow g u v ts below) → ((below.left && below.right) && not below.both) ≡ are_apart is.grown
+  pub below_apart : (ts : List PlainTree) (below : Below) (is : IsGrownBelow g u v ts below) → ((below.left && below.right) && not below.both) ≡ are_apart is.grown
   below_apart ts below is =
       ap (λ b. (b && below.right) && not below.both) is.left ∙ ap (λ b. (list_any (λ x. x.left) is.grown && b) && not below.both) is.right
       ∙ ap (λ b. (list_any (λ x. x.left) is.grown && list_any (λ x. x.right) is.grown) && not b) is.both

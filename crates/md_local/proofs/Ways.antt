@@ -19,7 +19,7 @@ use Rattle.md_tree.proofs.Nodes.{IsChild}
 use Rattle.md_tree.proofs.Folding.{row_listed}
 use Rattle.md_local.specs.declared.walking.Open.{Open}
 use Rattle.md_local.specs.Growing.{IsOld}
-use Rattle.md_local.specs.Walks.{IsIn, IsAbove, Leads, IsWay, HasPassed, HasMore, ahead_in, ahead}
+use Rattle.md_local.specs.Walks.{IsIn, IsAbove, Leads, IsWay, HasPassed, HasMore, ahead_in, steps_ahead}
 use Rattle.md_local.proofs.Nested.{none_there, rows-append, own_nodes}
 use Rattle.md_local.proofs.Ordering.{child_of_in}
 use Rattle.md_local.proofs.Placing.{node_below}
@@ -148,7 +148,7 @@ module _ (own each : PlainTree → ℕ) where
     sums-last fs f = let a = sum_by-append (ahead_in own each) fs (f ∷ []) in let b = sum_by-cons (ahead_in own each) f [] in omega arith
 
     pub begin_ahead : (t : PlainTree) (fs : List (Open B)) (f : Open B) → fs ≡ [] → plain f.tree.now ≡ t → map plain f.rest.now ≡ below_node t →
-        ahead own each fs f ≡ own t + sum_by each (row_nodes_backward (row (below_node t)))
+        steps_ahead own each fs f ≡ own t + sum_by each (row_nodes_backward (row (below_node t)))
     begin_ahead t fs f none is all =
         let a = ap (sum_by (ahead_in own each)) none in
         let b = ap own is in
@@ -156,7 +156,7 @@ module _ (own each : PlainTree → ℕ) where
         omega arith
 
     pub down_ahead : (fs gs : List (Open B)) (f up next : Open B) (c : TreeOf Kind Pair) (ts : List PlainTree) → up.tree ≡ f.tree → map plain f.rest.now ≡ ts ++ plain c ∷ map plain up.rest.now →
-        gs ≡ fs ++ up ∷ [] → plain next.tree.now ≡ plain c → map plain next.rest.now ≡ below_node (plain c) → ahead own each gs next + each (plain c) ≤ ahead own each fs f + own (plain c)
+        gs ≡ fs ++ up ∷ [] → plain next.tree.now ≡ plain c → map plain next.rest.now ≡ below_node (plain c) → steps_ahead own each gs next + each (plain c) ≤ steps_ahead own each fs f + own (plain c)
     down_ahead fs gs f up next c ts same split push is all =
         let a = ap (sum_by (ahead_in own each)) push ∙ sums-last fs up in
         let b = ap (λ r. own (plain r.now)) same in
@@ -167,12 +167,12 @@ module _ (own each : PlainTree → ℕ) where
         let j = ap (λ l. sum_by each (row_nodes_backward (row l))) all in
         omega arith
 
-    pub up_ahead : (fs gs : List (Open B)) (f up next : Open B) → fs ≡ gs ++ up ∷ [] → next.tree ≡ up.tree → next.rest ≡ up.rest → ahead own each gs next + own (plain f.tree.now) ≤ ahead own each fs f
+    pub up_ahead : (fs gs : List (Open B)) (f up next : Open B) → fs ≡ gs ++ up ∷ [] → next.tree ≡ up.tree → next.rest ≡ up.rest → steps_ahead own each gs next + own (plain f.tree.now) ≤ steps_ahead own each fs f
     up_ahead fs gs f up next pop same rest =
         let a = ap (sum_by (ahead_in own each)) pop ∙ sums-last gs up in
         let b = ap (λ r. own (plain r.now)) same in
         let c = ap (λ r. sum_by each (row_nodes_backward (row (map plain r.now)))) rest in
         omega arith
 
-    pub own_ahead : (fs : List (Open B)) (f : Open B) → own (plain f.tree.now) ≤ ahead own each fs f
+    pub own_ahead : (fs : List (Open B)) (f : Open B) → own (plain f.tree.now) ≤ steps_ahead own each fs f
     own_ahead fs f = omega arith

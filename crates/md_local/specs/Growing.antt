@@ -137,7 +137,7 @@ gathered us [] = us
 gathered us (x ∷ xs) = gathered (added_to us x.growth) xs
 
 -- all that has grown of the trees in one list, and whether some hold u, some hold v, and one holds both
-pub record IsBelow (g : PlainGraph) (u v : ℕ) (ts : List PlainTree) (below : Below) : Type 0 where
+pub record IsGrownBelow (g : PlainGraph) (u v : ℕ) (ts : List PlainTree) (below : Below) : Type 0 where
   pub grown : List Grown
   pub each : AreGrownFrom g u v ts grown
   pub list : map plain below.list.items ≡ gathered [] grown

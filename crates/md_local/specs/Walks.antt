@@ -54,17 +54,17 @@ abbrev pub ahead_in : {B : Type 0} → (PlainTree → ℕ) → (PlainTree → �
 ahead_in own each f = own (plain f.tree.now) + sum_by each (row_nodes_backward (row (map plain f.rest.now)))
 
 -- the same of all nodes that a walk is in
-abbrev pub ahead : {B : Type 0} → (PlainTree → ℕ) → (PlainTree → ℕ) → List (Open B) → Open B → ℕ
-ahead own each fs f = sum_by (ahead_in own each) fs + ahead_in own each f
+abbrev pub steps_ahead : {B : Type 0} → (PlainTree → ℕ) → (PlainTree → ℕ) → List (Open B) → Open B → ℕ
+steps_ahead own each fs f = sum_by (ahead_in own each) fs + ahead_in own each f
 
 -- the same after a turn
 abbrev pub still_ahead : {B R : Type 0} → (PlainTree → ℕ) → (PlainTree → ℕ) → List (Open B) → Turn B R → ℕ
-still_ahead own each fs (Onward f) = ahead own each fs f
+still_ahead own each fs (Onward f) = steps_ahead own each fs f
 still_ahead own each fs (End r) = 0
 
 -- the turns that are still to come are fewer than this: each node is gone to and come back from
 abbrev pub turns_ahead : {B : Type 0} → List (Open B) → Open B → ℕ
-turns_ahead fs f = ahead (λ t. 1) (λ t. 2) fs f
+turns_ahead fs f = steps_ahead (λ t. 1) (λ t. 2) fs f
 
 abbrev pub turns_still_ahead : {B R : Type 0} → List (Open B) → Turn B R → ℕ
 turns_still_ahead fs turn = still_ahead (λ t. 1) (λ t. 2) fs turn

@@ -8,9 +8,9 @@ ghost use Rattle.md_tree.specs.Parts.{below_node};
 ghost use Rattle.md_tree.specs.Plain.{plain};
 ghost use Rattle.md_tree.specs.Trees.{PlainTree, leaf};
 ghost use Rattle.md_local.specs.declared.growing.Growth.TheVariants.{Whole};
-ghost use Rattle.md_local.specs.Growing.{own_steps, IsOld, IsGrownFrom, IsBelow, is_hanging, one_alone, added_to, quotient_names};
+ghost use Rattle.md_local.specs.Growing.{own_steps, IsOld, IsGrownFrom, IsGrownBelow, is_hanging, one_alone, added_to, quotient_names};
 ghost use Rattle.md_local.specs.Substitution.{IsOverQuotient};
-ghost use Rattle.md_local.specs.Walks.{IsWay, HasPassed, HasMore, HasTurned, ahead, still_ahead, turns_ahead, turns_still_ahead};
+ghost use Rattle.md_local.specs.Walks.{IsWay, HasPassed, HasMore, HasTurned, steps_ahead, still_ahead, turns_ahead, turns_still_ahead};
 
 use crate::hanging::substitute;
 use crate::merging::{first_leaf, join};
@@ -53,7 +53,7 @@ pub(crate) fn open_node<'a>(alloc: Global, tree: &'a Tree) -> Result<Open<'a, Be
     ensures rest { IfOk result (λ node.
         map plain node.rest.now ≡ below_node (plain tree.now)) }
     ensures below { IfOk result (λ node. (g : PlainGraph) (u v : ℕ)
-        → IsBelow g u v [] node.below) }
+        → IsGrownBelow g u v [] node.below) }
 {
     let rest = children_of(tree);
     let list = Vec::with_capacity(alloc, rest.len())?;
@@ -79,17 +79,17 @@ pub(crate) fn take_turn<'a, L: Ledger, const W: usize>(
 ) -> Result<Turn<'a, Below, Grown>, Memory>
     requires left { Has graph.now.vertices u }
     requires way { (e : ℕ → ℕ → Bool) × (t : PlainTree) × IsOld graph.now u v e t
-        × IsWay (IsBelow graph.now u v) t path.old.items current }
+        × IsWay (IsGrownBelow graph.now u v) t path.old.items current }
     ensures turn { IfOk result (λ turn. (t : PlainTree)
-        → IsWay (IsBelow graph.now u v) t path.old.items current.entry
-        → HasTurned (IsBelow graph.now u v) (IsGrownFrom graph.now u v) t path.new.items turn) }
+        → IsWay (IsGrownBelow graph.now u v) t path.old.items current.entry
+        → HasTurned (IsGrownBelow graph.now u v) (IsGrownFrom graph.now u v) t path.new.items turn) }
     ensures fewer { IfOk result (λ turn. turns_still_ahead path.new.items turn
         < turns_ahead path.old.items current.entry) }
     ensures rest { IfOk result (λ turn.
         work.new + still_ahead (own_steps u v) (own_steps u v) path.new.items turn
-        ≤ work.old + ahead (own_steps u v) (own_steps u v) path.old.items current.entry) }
+        ≤ work.old + steps_ahead (own_steps u v) (own_steps u v) path.old.items current.entry) }
     ensures work { work.new
-        ≤ work.old + ahead (own_steps u v) (own_steps u v) path.old.items current.entry }
+        ≤ work.old + steps_ahead (own_steps u v) (own_steps u v) path.old.items current.entry }
 {
     let node = pass_leaves(alloc, current, u, v)?;
     let Open { tree, rest, below } = node;
@@ -112,7 +112,7 @@ fn pass_leaves<'a>(
     v: u32,
 ) -> Result<Open<'a, Below>, Memory>
     ensures { IfOk result (λ passed. (g : PlainGraph)
-        → HasPassed (IsBelow g u v) node.entry passed) }
+        → HasPassed (IsGrownBelow g u v) node.entry passed) }
 {
     let Open {
         tree,
@@ -129,7 +129,7 @@ fn pass_leaves<'a>(
 // Adds what grows of a leaf.
 fn add_leaf(alloc: Global, below: &mut Below, name: u32, u: u32, v: u32) -> Result<(), Memory>
     ensures { IfOk result (λ _. (g : PlainGraph) (ts : List PlainTree)
-        → IsBelow g u v ts below.old → IsBelow g u v (ts ++ leaf name ∷ []) below.new) }
+        → IsGrownBelow g u v ts below.old → IsGrownBelow g u v (ts ++ leaf name ∷ []) below.new) }
 {
     if is_end(name, u, v) {
         return add_grown(below, leaf_grown(alloc, name, u, v));
@@ -148,8 +148,8 @@ fn is_end(name: u32, u: u32, v: u32) -> bool
 // Adds what has grown of one more tree.
 fn add_grown(below: &mut Below, grown: Grown) -> Result<(), Memory>
     ensures { IfOk result (λ _. (g : PlainGraph) (u v : ℕ) (ts : List PlainTree) (t : PlainTree)
-        → IsBelow g u v ts below.old → IsGrownFrom g u v t grown
-        → IsBelow g u v (ts ++ t ∷ []) below.new) }
+        → IsGrownBelow g u v ts below.old → IsGrownFrom g u v t grown
+        → IsGrownBelow g u v (ts ++ t ∷ []) below.new) }
 {
     let Grown {
         growth,
@@ -166,7 +166,7 @@ fn add_grown(below: &mut Below, grown: Grown) -> Result<(), Memory>
 // The node above, with what has grown of its child.
 fn with_grown<'a>(above: Open<'a, Below>, grown: Grown) -> Result<Open<'a, Below>, Memory>
     ensures { IfOk result (λ node. (g : PlainGraph) (u v : ℕ) (t : PlainTree)
-        → IsGrownFrom g u v t grown → HasMore (IsBelow g u v) t above.entry node) }
+        → IsGrownFrom g u v t grown → HasMore (IsGrownBelow g u v) t above.entry node) }
 {
     let Open {
         tree,
@@ -189,7 +189,7 @@ fn grow<L: Ledger, const W: usize>(
 ) -> Result<Grown, Memory>
     requires left { Has graph.now.vertices u }
     requires old { (e : ℕ → ℕ → Bool) × IsOld graph.now u v e (plain node.now) }
-    requires below { IsBelow graph.now u v (below_node (plain node.now)) below }
+    requires below { IsGrownBelow graph.now u v (below_node (plain node.now)) below }
     ensures grown { IfOk result (λ grown. IsGrownFrom graph.now u v (plain node.now) grown) }
     ensures work { work.new ≤ work.old + own_steps u v (plain node.now) }
 {

@@ -1,5 +1,5 @@
 -- The pairs of names that stand for the children of a prime node: their text, piece by piece, and which they are.
-use Rattle.std.proofs.Common.{◌≡◌, ◌≢◌, ℕ, zero, suc, ◌+◌, ◌-◌, ◌*◌, ◌<◌, ◌≤◌, Bool, true, false, cond, true≢false, List, [], ◌∷◌, ◌++◌, length, get_or, drop, append_assoc, append-nil, refl, sym, ◌∙◌, ap, ap₂, subst, inl, inr, arith}
+use Rattle.std.proofs.Common.{◌≡◌, ℕ, zero, suc, ◌+◌, ◌-◌, ◌<◌, ◌≤◌, Bool, true, false, cond, true≢false, List, [], ◌∷◌, ◌++◌, length, get_or, drop, append_assoc, append-nil, refl, sym, ◌∙◌, ap, ap₂, subst, inl, inr, arith}
 use Rattle.std.specs.Prelude.{◌↔◌, ⊤}
 use Rattle.std.specs.List.{All}
 use Rattle.std.specs.Option.{option_map_or}
@@ -9,7 +9,7 @@ use Rattle.std.proofs.lemmas.List.{drop_more, drop_all}
 use Rattle.std.proofs.lemmas.List.Elements.{All-head, All-tail}
 use Rattle.std.specs.FinSet.{contains, insert, intersection, from_list}
 use Rattle.md_graph.specs.declared.TheConstants.{NAMES}
-use Rattle.md_graph.specs.NameSet.{ascending_between, ascending_from}
+use Rattle.md_graph.specs.NameSet.{ascending_between, ascending_from, IsLeastFrom}
 use Rattle.md_graph.specs.Sets.{NameSet, Has}
 use Rattle.md_graph.proofs.NameLemmas.{ascending_step, ascending_none}
 use Rattle.md_graph.proofs.SetLemmas.{clash, insert_old, insert_new, of_insert, of_meet, meet_has, empty_lacks}
@@ -49,7 +49,7 @@ module _ {P : Type 0} {r : PairRules P} (law : ArePairRules r) where
         here rest false = rest
 
     -- the pairs of a name that has some, the first behind another mark
-    first_text : (mark : ℕ) (mstart : List ℕ) → mstart ≡ mark ∷ (decimal low ++ r.between ∷ []) → (j x : ℕ) (left ws : List ℕ) → SpellPositions pieces j ws → near_heads e v ws ≡ x ∷ left →
+    pub first_text : (mark : ℕ) (mstart : List ℕ) → mstart ≡ mark ∷ (decimal low ++ r.between ∷ []) → (j x : ℕ) (left ws : List ℕ) → SpellPositions pieces j ws → near_heads e v ws ≡ x ∷ left →
         (mstart ++ text_at pieces x) ++ (texts_at pieces start left ++ pairs_text_by r 44 more) ≡ pairs_text_by r mark (near_pairs r e v low j ws ++ more)
     first_text mark mstart is j x left [] places cut = absurd (let f : 0 ≡ suc (length left) = ap length cut in omega arith)
     first_text mark mstart is j x left (w ∷ ws) places cut = here (first_text mark mstart is (suc j) x left ws places.2) (e v w) cut
@@ -64,7 +64,8 @@ module _ {P : Type 0} {r : PairRules P} (law : ArePairRules r) where
             (ap (λ l. texts_at pieces start l ++ pairs_text_by r 44 more) (sym rest) ∙ near_text (suc j) ws places.2)
         here others false f = others f
 
-  near_none : (e : ℕ → ℕ → Bool) (v low j : ℕ) (ws : List ℕ) → near_heads e v ws ≡ [] → near_pairs r e v low j ws ≡ []
+  -- a name without near names has no pairs
+  pub near_none : (e : ℕ → ℕ → Bool) (v low j : ℕ) (ws : List ℕ) → near_heads e v ws ≡ [] → near_pairs r e v low j ws ≡ []
   near_none e v low j [] none = refl
   near_none e v low j (w ∷ ws) none = here (near_none e v low (suc j) ws) (e v w) none
     where
@@ -189,64 +190,61 @@ pair_put text held moved kept new first pieces i piece same put is there =
     ap (λ l. moved ++ l) (put ∙ append_assoc kept first (piece_text piece) ∙ ap (λ l. kept ++ (first ++ l)) at)
     ∙ sym (append_assoc moved kept (first ++ text_at pieces i)) ∙ ap (λ l. l ++ (first ++ text_at pieces i)) same
 
--- one name more, and none
-pub each_more : (now new total first : List ℕ) (pieces : List Piece) (left rest : List ℕ) (x : ℕ) → now ++ texts_at pieces first left ≡ total → left ≡ x ∷ rest → new ≡ now ++ (first ++ text_at pieces x) → new ++ texts_at pieces first rest ≡ total
-unfolding texts_at
-each_more now new total first pieces left rest x before cut one =
-    ap (λ l. l ++ texts_at pieces first rest) one ∙ append_assoc now (first ++ text_at pieces x) (texts_at pieces first rest) ∙ ap (λ l. now ++ texts_at pieces first l) (sym cut) ∙ before
-
-pub each_end : (now total first : List ℕ) (pieces : List Piece) (left : List ℕ) → now ++ texts_at pieces first left ≡ total → left ≡ [] → now ≡ total
-unfolding texts_at
-each_end now total first pieces left before none = sym (append-nil now) ∙ ap (λ l. now ++ texts_at pieces first l) (sym none) ∙ before
+-- the first name of a row, and the others
+pub first_near : (near : NameSet) (from first : ℕ) → IsLeastFrom near from first → first < NAMES → ascending_from near from ≡ first ∷ ascending_from near (first + 1)
+first_near near from first least name = ascending_step near from NAMES first (record { member = least.member; above = least.above; below = name; first = λ w m above below. least.first w m above })
 
 pub first_there : (pieces : List Piece) (names rest : List ℕ) (x : ℕ) → names ≡ x ∷ rest → All (λ v. v < length pieces) names → (x < length pieces) × All (λ v. v < length pieces) rest
 first_there pieces names rest x cut there =
     let all : All (λ v. v < length pieces) (x ∷ rest) = subst (All (λ v. v < length pieces)) cut there in
     (All-head (λ v. v < length pieces) x rest all, All-tail (λ v. v < length pieces) x rest all)
 
-module _ {P : Type 0} (r : PairRules P) where
+-- ---- the names that a head has a pair with
+
+module _ (e : ℕ → ℕ → Bool) (list : List ℕ) (up : Ascends list) (names : (k : ℕ) → k < length list → get_or list k 0 < NAMES) (v : ℕ) (row near all : NameSet) (from : ℕ) (few : from ≤ NAMES)
+    (is_all : all ≡ from_list list) (is_near : near ≡ intersection row all) (is_row : (y : ℕ) → (e v y ≡ true) ↔ (Has row y × (from ≤ y))) where
+  -- they are the names of the row among those of the list, from a number on
+  pub near_is : ascending_from near from ≡ near_heads e v list
+  near_is = near_listed e v near from NAMES list 0 few (rises_of list NAMES (ascend_two list up) names 0 (λ some. omega arith))
+      (λ x a h. let t = of_meet row all x (subst (λ s. Has s x) is_near h) in (of_set list x (subst (λ s. Has s x) is_all t.1), (is_row x).1 (t.0, a)))
+      (λ x inside edge.
+      let t = (is_row x).0 edge in
+      (subst (λ s. Has s x) (sym is_near) (meet_has row all x t.0 (subst (λ s. Has s x) (sym is_all) (to_set list x inside))), t.1))
+
+  -- each of them has its place
+  pub near_there : (pieces : List Piece) → SpellPositions pieces 0 list → All (λ w. w < length pieces) (ascending_from near from)
+  near_there pieces places = subst (All (λ w. w < length pieces)) (sym near_is) (places_there e v pieces 0 list places)
+
+module _ {P : Type 0} (r : PairRules P) (e : ℕ → ℕ → Bool) (list : List ℕ) where
   -- the pairs of the names before the position i are put behind `before`
-  pub record AreHeadsPut (e : ℕ → ℕ → Bool) (list : List ℕ) (i : ℕ) (before now : List ℕ) (mark : ℕ) (pieces : List Piece) : Type 0 where
+  pub record AreHeadsPut (i : ℕ) (before now : List ℕ) (mark : ℕ) (pieces : List Piece) : Type 0 where
     pub text : now ++ pairs_text_by r mark (pairs_from r e list i (drop i list)) ≡ before ++ pairs_text_by r 59 (head_pairs r e list)
     pub places : SpellPositions pieces 0 list
 
-  pub heads_begin : (e : ℕ → ℕ → Bool) (list before gathered : List ℕ) (pieces : List Piece) → gathered ≡ [] → SpellPositions pieces 0 list → AreHeadsPut e list 0 before (before ++ gathered) 59 pieces
-  heads_begin e list before gathered pieces none places = record {
+  pub heads_begin : (before gathered : List ℕ) (pieces : List Piece) → gathered ≡ [] → SpellPositions pieces 0 list → AreHeadsPut 0 before (before ++ gathered) 59 pieces
+  heads_begin before gathered pieces none places = record {
     text = ap (λ l. (before ++ l) ++ pairs_text_by r 59 (head_pairs r e list)) none ∙ ap (λ l. l ++ pairs_text_by r 59 (head_pairs r e list)) (append-nil before);
     places = places;
   }
 
-  pub heads_end : (e : ℕ → ℕ → Bool) (list : List ℕ) (i : ℕ) (before now : List ℕ) (mark : ℕ) (pieces : List Piece) → length list ≤ i → AreHeadsPut e list i before now mark pieces →
-      now ≡ before ++ pairs_text_by r 59 (head_pairs r e list)
-  heads_end e list i before now mark pieces over p =
-      sym (append-nil now) ∙ ap (λ l. now ++ pairs_text_by r mark (pairs_from r e list i l)) (sym (drop_all i list over)) ∙ p.text
+  pub heads_end : (i : ℕ) (before now : List ℕ) (mark : ℕ) (pieces : List Piece) → length list ≤ i → AreHeadsPut i before now mark pieces → now ≡ before ++ pairs_text_by r 59 (head_pairs r e list)
+  heads_end i before now mark pieces over p = sym (append-nil now) ∙ ap (λ l. now ++ pairs_text_by r mark (pairs_from r e list i l)) (sym (drop_all i list over)) ∙ p.text
 
-  module _ (e : ℕ → ℕ → Bool) (list : List ℕ) (i : ℕ) (below : i < length list) (before now : List ℕ) (mark : ℕ) (pieces : List Piece) (p : AreHeadsPut e list i before now mark pieces) (up : Ascends list)
-      (names : (k : ℕ) → k < length list → get_or list k 0 < NAMES) (v : ℕ) (is : v ≡ get_or list i 0) (row near all : NameSet) (from : ℕ) (few : from ≤ NAMES) (is_all : all ≡ from_list list) (is_near : near ≡ intersection row all)
-      (is_row : (y : ℕ) → (e v y ≡ true) ↔ (Has row y × (from ≤ y))) where
-    near_is : ascending_from near from ≡ near_heads e v list
-    near_is = near_listed e v near from NAMES list 0 few (rises_of list NAMES (ascend_two list up) names 0 (λ some. omega arith))
-        (λ x a h. let t = of_meet row all x (subst (λ s. Has s x) is_near h) in (of_set list x (subst (λ s. Has s x) is_all t.1), (is_row x).1 (t.0, a)))
-        (λ x inside edge.
-        let t = (is_row x).0 edge in
-        (subst (λ s. Has s x) (sym is_near) (meet_has row all x t.0 (subst (λ s. Has s x) (sym is_all) (to_set list x inside))), t.1))
-
-    pub near_there : All (λ w. w < length pieces) (ascending_from near from)
-    near_there = subst (All (λ w. w < length pieces)) (sym near_is) (places_there e v pieces 0 list p.places)
-
-    pub heads_more : (far : List ℕ) (next : ℕ) (kept : List Piece) (listed : List ℕ) → kept ≡ pieces → listed ≡ ascending_from near from →
-        ((f : ℕ → ℕ → Bool) (u j : ℕ) (ws : List ℕ) (more : List P) → SpellPositions pieces j ws → listed ≡ near_heads f u ws → far ++ pairs_text_by r next more ≡ now ++ pairs_text_by r mark (near_pairs r f u i j ws ++ more)) →
-        AreHeadsPut e list (i + 1) before far next kept
-    heads_more far next kept listed same are row_done =
-        let one : i + 1 ≡ suc i = omega arith in
-        let cut : drop i list ≡ v ∷ drop (i + 1) list = drop_more list i 0 below ∙ ap (λ x. x ∷ drop (i + 1) list) (sym is) in
-        record {
-          text =
-              row_done e v 0 list (pairs_from r e list (i + 1) (drop (i + 1) list)) p.places (are ∙ near_is)
-              ∙ ap (λ n. now ++ pairs_text_by r mark (near_pairs r e v i 0 list ++ pairs_from r e list n (drop (i + 1) list))) one
-              ∙ ap (λ l. now ++ pairs_text_by r mark (pairs_from r e list i l)) (sym cut) ∙ p.text;
-          places = subst (λ l. SpellPositions l 0 list) (sym same) p.places;
-        }
+  pub heads_more : (i : ℕ) → i < length list → (before now : List ℕ) (mark : ℕ) (pieces : List Piece) → AreHeadsPut i before now mark pieces → (far : List ℕ) (next : ℕ) (kept : List Piece) (listed : List ℕ) → kept ≡ pieces →
+      listed ≡ near_heads e (get_or list i 0) list →
+      ((f : ℕ → ℕ → Bool) (u j : ℕ) (ws : List ℕ) (more : List P) → SpellPositions pieces j ws → listed ≡ near_heads f u ws → far ++ pairs_text_by r next more ≡ now ++ pairs_text_by r mark (near_pairs r f u i j ws ++ more)) →
+      AreHeadsPut (i + 1) before far next kept
+  heads_more i below before now mark pieces p far next kept listed same are row_done =
+      let v = get_or list i 0 in
+      let one : i + 1 ≡ suc i = omega arith in
+      let cut : drop i list ≡ v ∷ drop (i + 1) list = drop_more list i 0 below in
+      record {
+        text =
+            row_done e v 0 list (pairs_from r e list (i + 1) (drop (i + 1) list)) p.places are
+            ∙ ap (λ n. now ++ pairs_text_by r mark (near_pairs r e v i 0 list ++ pairs_from r e list n (drop (i + 1) list))) one
+            ∙ ap (λ l. now ++ pairs_text_by r mark (pairs_from r e list i l)) (sym cut) ∙ p.text;
+        places = subst (λ l. SpellPositions l 0 list) (sym same) p.places;
+      }
 
 -- ascending names below a limit are as few as names below it
 rises_few : (low n : ℕ) (ws : List ℕ) → low ≤ n → Rises low n ws → low + length ws ≤ n

@@ -2,12 +2,12 @@
 use Rattle.std.proofs.Common.{◌≡◌, ℕ, zero, suc, ◌+◌, ◌<◌, ◌≤◌, Bool, true, List, [], ◌∷◌, length, get_or, Contains, refl, sym, ◌∙◌, ap, ap₂, subst, inl, inr, lt-ltb, ltb-true, nat_lt, arith}
 use Rattle.std.specs.Prelude.{◌↔◌}
 use Rattle.std.proofs.lemmas.Bool.{and_parts, and_from, cases_lt}
-use Rattle.std.specs.FinSet.{contains}
+use Rattle.std.specs.FinSet.{contains, intersection}
 use Rattle.md_graph.specs.Adjacency.{IsAdjacency}
 use Rattle.md_graph.specs.PlainGraph.{PlainGraph, IsGraph, adjacent, neighbours}
 use Rattle.md_graph.specs.Sets.{NameSet, Has, Within}
-use Rattle.md_graph.proofs.GraphLemmas.{contains-neighbours}
-use Rattle.md_graph.proofs.SetLemmas.{clash, of_only, empty_lacks, of_union, union_left, union_right}
+use Rattle.md_graph.proofs.GraphLemmas.{adjacent_ends, contains-neighbours}
+use Rattle.md_graph.proofs.SetLemmas.{union_left, union_right, same_members, meet_has, of_meet}
 use Rattle.md_modules.proofs.Modules.{undirected}
 use Rattle.md_modules.proofs.Turns.{graph_adjacency}
 use Rattle.md_text.proofs.Lists.{In, of_contains, to_contains, to_pairs}
@@ -19,21 +19,23 @@ use Rattle.md_tree.specs.Held.{Ascends}
 use Rattle.md_tree.specs.Spellings.{graph_pairs, IsPairBeforeBy}
 use Rattle.md_tree.specs.StrongTrees.{IsInOrder, AreTreesJoined, ListsJoined, HasPairs, IsTreeOf}
 use Rattle.md_tree.specs.Trees.{PlainTree, leaf, node, PlainTrees, no_tree, one_more, names, names_below, count, EachNode, EachNodeBelow}
-use Rattle.md_tree.specs.WellFormed.{HasShape, IsCanonicalNode}
+use Rattle.md_tree.specs.WellFormed.{IsCanonicalNode}
 use Rattle.md_tree.proofs.Built.{IsBuilt, tree_names, tree_built, children_maximal}
 use Rattle.md_tree.proofs.Canonical.{canonical_of}
 use Rattle.md_tree.proofs.Fitted.{at_places, modules_below}
-use Rattle.md_tree.proofs.Heads.{head_in, heads_in}
+use Rattle.md_tree.proofs.Heads.{heads_in}
 use Rattle.md_tree.proofs.Nodes.{position_below}
 use Rattle.md_tree.proofs.Pairs.{one_list}
 use Rattle.md_tree.proofs.Spelled.{graph_pairs_law}
 use Rattle.md_outline.specs.HeadPairs.{head_pairs}
 use Rattle.md_outline.specs.NodeRows.{is_edge_up, head_list, AreHeadsOf, pairs_by_rows, IsNodeByRows}
+use Rattle.md_outline.proofs.Heads.{some_child, tree_head, head_least}
 use Rattle.md_outline.proofs.HeadPairs.{ascend_two, pairs_later, pairs_within, listed_in, in_listed}
 
 -- ---- edges to later names
 
-edge_up : (e : ℕ → ℕ → Bool) (v w : ℕ) → (is_edge_up e v w ≡ true) ↔ ((e v w ≡ true) × (v < w))
+-- an edge to a later name
+pub edge_up : (e : ℕ → ℕ → Bool) (v w : ℕ) → (is_edge_up e v w ≡ true) ↔ ((e v w ≡ true) × (v < w))
 edge_up e v w = (
   λ t. let two = and_parts (e v w) (nat_lt v w) t in (two.0, ltb-true v w two.1),
   λ t. and_from (e v w) (nat_lt v w) t.0 (lt-ltb v w t.1),
@@ -47,8 +49,14 @@ edges_ahead {g} graph v row is y =
       λ t. (edge_up (adjacent g) v y).1 (sym told ∙ t.0, (let a : v + 1 ≤ y = t.1 in omega arith)),
     )
 
+-- where all vertices are in a set, so are all neighbours
+pub all_near : {g : PlainGraph} → IsGraph g → (v : ℕ) (all : NameSet) → Within g.vertices all → intersection (neighbours g v) all ≡ neighbours g v
+all_near {g} graph v all inside = same_members _ _
+    (λ q h. (of_meet (neighbours g v) all q h).0)
+    (λ q h. meet_has (neighbours g v) all q h (inside q (adjacent_ends graph v q (sym (contains-neighbours graph v q) ∙ h)).1))
+
 -- of ascending names the lower one stands first
-stands_first : (list : List ℕ) → Ascends list → (i j : ℕ) → i < length list → j < length list → get_or list i 0 < get_or list j 0 → i < j
+pub stands_first : (list : List ℕ) → Ascends list → (i j : ℕ) → i < length list → j < length list → get_or list i 0 < get_or list j 0 → i < j
 stands_first list up i j bi bj less = elim (cases_lt i j) [
   | inl first ↦ first
   | inr over ↦ elim (cases_lt j i) [
@@ -56,34 +64,6 @@ stands_first list up i j bi bj less = elim (cases_lt i j) [
     | inr same ↦ (let e : i ≡ j = omega arith in let a : get_or list j 0 < get_or list j 0 = subst (λ k. get_or list k 0 < get_or list j 0) e less in absurd (omega arith))
   ]
 ]
-
--- ---- heads are the least names of their trees
-
-two_of_shape : (k : Kind) (cs : PlainTrees) (ps : List Pair) → HasShape k cs ps → 2 ≤ count cs
-two_of_shape Parallel cs ps shape = shape.enough
-two_of_shape Series cs ps shape = shape.enough
-two_of_shape Prime cs ps shape = let b : 4 ≤ count cs = shape.enough in omega arith
-
-some_child : (k : Kind) (cs : PlainTrees) (ps : List Pair) → IsCanonicalNode k cs ps → 1 ≤ count cs
-some_child k cs ps canon = let two : 2 ≤ count cs = two_of_shape k cs ps canon.shape in omega arith
-
-tree_head : (t : PlainTree) → EachNode IsCanonicalNode t → Has (names t) (head t)
-tree_head = head_in IsCanonicalNode some_child
-
-mutual
-  head_least : (t : PlainTree) → EachNode IsCanonicalNode t → (x : ℕ) → Has (names t) x → head t ≤ x
-  head_least (leaf v) each x h = let same : x ≡ v = of_only v x h in omega arith
-  head_least (node k cs ps) each x h = first_least cs each.0.order each.1 x h
-
-  first_least : (cs : PlainTrees) → IsInOrder cs → EachNodeBelow IsCanonicalNode cs → (x : ℕ) → Has (names_below cs) x → head_at cs 0 ≤ x
-  first_least no_tree order each x h = clash h (empty_lacks x)
-  first_least (one_more t ts) order each x h = elim (of_union (names t) (names_below ts) x h) [
-    | inl here ↦ head_least t each.0 x here
-    | inr later ↦
-        let low : head t ≤ order.0.0 = head_least t each.0 order.0.0 order.0.1 in
-        let less : order.0.0 < x = order.0.2 x later in
-        omega arith
-  ]
 
 -- ---- the list of the heads
 

@@ -1,5 +1,6 @@
 -- One part more of a tree's text.
 use Rattle.std.proofs.Common.{◌≡◌, ℕ, zero, suc, ◌+◌, ◌-◌, ◌<◌, ◌≤◌, ◌⊎◌, Bool, List, [], ◌∷◌, ◌++◌, length, take, drop, Option, Some, None, codes, append_assoc, append-nil, refl, sym, ◌∙◌, ap, ap₂, subst, inl, inr, arith, length-append}
+use Rattle.std.proofs.lemmas.List.{drop_at, same_from_push}
 use Rattle.md_graph.specs.PlainGraph.{PlainGraph, IsGraph, adjacent}
 use Rattle.md_graph.specs.Sets.{NameSet}
 use Rattle.md_text.specs.Numbers.{decimal}
@@ -10,6 +11,7 @@ use Rattle.md_tree.specs.Spellings.{letter}
 use Rattle.md_tree.specs.StrongTrees.{IsTree}
 use Rattle.md_tree.specs.Trees.{PlainTree, leaf, node, PlainTrees, no_tree, one_more, count, EachNode, EachNodeBelow}
 use Rattle.md_tree.specs.TreeTexts.{tree_text, row_text, pairs_text, text_of}
+use Rattle.md_tree.proofs.Leaving.{no_snoc}
 use Rattle.md_outline.specs.declared.outline.OutlinePart.{OutlinePart}
 use Rattle.md_outline.specs.declared.outline.OutlinePart.TheVariants.{Name, Node}
 use Rattle.md_outline.specs.declared.writer.Begun.{Begun}
@@ -18,31 +20,10 @@ use Rattle.md_outline.specs.NodeRows.{head_list, AreHeadsOf, pairs_by_rows, IsNo
 use Rattle.md_outline.specs.BegunNodes.{BegunNode, begun_node, begun_nodes, heads_held, parts_left, text_left, HasChildLeft, AreHeld, IsMarkPut, IsBegun, AreBegun, IsDue, IsOnWay, MayGoOn}
 use Rattle.md_outline.proofs.NodeRows.{count_heads, rows_tell}
 
--- ---- the end of a list
-
-no_end : {X : Type 0} (xs : List X) (x : X) → [] ≡ xs ++ x ∷ [] → ⊥
-no_end xs x e = let l : 0 ≡ length (xs ++ x ∷ []) = ap length e in omega (arith, length-append xs (x ∷ []))
-
-same_end : {X : Type 0} (xs ys : List X) (x y : X) → xs ++ x ∷ [] ≡ ys ++ y ∷ [] → (xs ≡ ys) × (x ≡ y)
-same_end [] [] x y e = let f : x ≡ y = cc in (refl, f)
-same_end [] (b ∷ ys) x y e = let f : [] ≡ ys ++ y ∷ [] = cc in absurd (no_end ys y f)
-same_end (a ∷ xs) [] x y e = let f : xs ++ x ∷ [] ≡ [] = cc in absurd (no_end xs x (sym f))
-same_end (a ∷ xs) (b ∷ ys) x y e =
-    let f : xs ++ x ∷ [] ≡ ys ++ y ∷ [] = cc in
-    let g : a ≡ b = cc in
-    let r : (xs ≡ ys) × (x ≡ y) = same_end xs ys x y f in
-    (ap₂ (λ h l. h ∷ l) g r.0, r.1)
-
-take_front : {X : Type 0} (xs ys : List X) → take (length xs) (xs ++ ys) ≡ xs
-take_front [] ys = refl
-take_front (x ∷ xs) ys = ap (λ l. x ∷ l) (take_front xs ys)
-
-drop_front : {X : Type 0} (xs ys : List X) → drop (length xs) (xs ++ ys) ≡ ys
-drop_front [] ys = refl
-drop_front (x ∷ xs) ys = drop_front xs ys
+-- ---- no node is begun
 
 pub ready_none : (begun : List Begun) → begun ≡ [] → HasChildLeft begun
-ready_none begun none os o f = absurd (no_end os o (sym none ∙ f))
+ready_none begun none os o f = absurd (no_snoc os o (sym none ∙ f))
 
 -- ---- a child of the innermost node is finished
 
@@ -65,9 +46,6 @@ finish_text (b ∷ bs) h = refl
 finish_held : (nodes : List BegunNode) (h : ℕ) (held next : List ℕ) → held ≡ heads_held nodes → next ≡ held ++ h ∷ [] → AreHeld (finish nodes h) next
 finish_held [] h held next are one = tt
 finish_held (b ∷ bs) h held next are one = one ∙ ap (λ l. l ++ h ∷ []) are ∙ append_assoc (heads_held bs) b.finished (h ∷ [])
-
-no_part : (part : OutlinePart Kind) (others : List (OutlinePart Kind)) → part ∷ others ≡ [] → ⊥
-no_part part others f = let l : suc (length others) ≡ 0 = ap length f in omega arith
 
 module _ (e : ℕ → ℕ → Bool) (s : NameSet) where
   finish_inside : (nodes : List BegunNode) (h : ℕ) → AreBegun e s (h ∷ []) nodes → AreBegun e s [] (finish nodes h)
@@ -112,7 +90,7 @@ module _ (e : ℕ → ℕ → Bool) (s : NameSet) where
 
   due_in : (whole text marked_text : List ℕ) (part : OutlinePart Kind) (others : List (OutlinePart Kind)) (begun marked : List Begun) (held : List ℕ) → HasChildLeft begun → IsMarkPut text begun marked_text marked →
       (nodes : List BegunNode) → AreBegun e s [] nodes → begun ≡ begun_nodes nodes → AreHeld nodes held → part ∷ others ≡ parts_left nodes → text ++ text_left nodes ≡ whole → IsDue e s whole marked_text (part ∷ others) marked held
-  due_in whole text marked_text part others begun marked held ready is [] inside begun_are held_are parts_are text_is = absurd (no_part part others parts_are)
+  due_in whole text marked_text part others begun marked held ready is [] inside begun_are held_are parts_are text_is = absurd (let f : part ∷ others ≡ [] = parts_are in cc)
   due_in whole text marked_text part others begun marked held ready is (b ∷ bs) inside begun_are held_are parts_are text_is = by_coming b.coming refl
     where
       by_coming : (cs : PlainTrees) → b.coming ≡ cs → IsDue e s whole marked_text (part ∷ others) marked held
@@ -203,11 +181,11 @@ module _ (e : ℕ → ℕ → Bool) (s : NameSet) where
   ending whole text parts begun front o held cut none way = by_nodes way.nodes way.inside way.begun_are way.held_are way.parts_are way.text_is
     where
       by_nodes : (nodes : List BegunNode) → AreBegun e s [] nodes → begun ≡ begun_nodes nodes → AreHeld nodes held → parts ≡ parts_left nodes → text ++ text_left nodes ≡ whole → IsEnding whole text parts front o held
-      by_nodes [] inside begun_are held_are parts_are text_is = absurd (no_end front o (sym begun_are ∙ cut))
+      by_nodes [] inside begun_are held_are parts_are text_is = absurd (no_snoc front o (sym begun_are ∙ cut))
       by_nodes (b ∷ bs) inside begun_are held_are parts_are text_is = by_coming b.coming refl
         where
           ends : (front ≡ begun_nodes bs) × (o ≡ begun_node b)
-          ends = same_end front (begun_nodes bs) o (begun_node b) (sym cut ∙ begun_are)
+          ends = same_from_push front (begun_nodes bs) o (begun_node b) (sym cut ∙ begun_are)
 
           by_coming : (cs : PlainTrees) → b.coming ≡ cs → IsEnding whole text parts front o held
           by_coming no_tree is = record {
@@ -237,7 +215,7 @@ module _ (e : ℕ → ℕ → Bool) (s : NameSet) where
     first_is = let a = count_is in let b = held_size in omega arith
 
     own_heads : drop (length held - o.count) held ≡ head_list at.b.children
-    own_heads = ap₂ drop first_is at.held_are ∙ drop_front (heads_held at.outer) (head_list at.b.children)
+    own_heads = ap (drop (length held - o.count)) at.held_are ∙ drop_at (heads_held at.outer) (head_list at.b.children) (length held - o.count) (sym first_is)
 
     pub heads_there : o.count ≤ length held
     heads_there = let a = count_is in let b = held_size in omega arith
@@ -266,8 +244,8 @@ module _ (e : ℕ → ℕ → Bool) (s : NameSet) where
   all_written whole text begun held ready (inl start) = absurd (by_tree start.1.tree start.1.parts_are)
     where
       by_tree : (t : PlainTree) → [] ≡ outline_of t ++ parts_left start.1.nodes → ⊥
-      by_tree (leaf w) f = no_part (Name w) (parts_left start.1.nodes) (sym f)
-      by_tree (node k cs ps) f = no_part (Node k (count cs)) (row_outline cs ++ parts_left start.1.nodes) (sym f)
+      by_tree (leaf w) f = cc
+      by_tree (node k cs ps) f = cc
   all_written whole text begun held ready (inr way) = by_nodes way.nodes way.begun_are way.parts_are way.text_is
     where
       by_nodes : (nodes : List BegunNode) → begun ≡ begun_nodes nodes → [] ≡ parts_left nodes → text ++ text_left nodes ≡ whole → text ≡ whole
@@ -279,8 +257,8 @@ module _ (e : ℕ → ℕ → Bool) (s : NameSet) where
           by_coming (one_more t ts) is = absurd (by_tree t (parts_are ∙ ap (λ l. row_outline l ++ parts_left bs) is ∙ append_assoc (outline_of t) (row_outline ts) (parts_left bs)))
             where
               by_tree : (u : PlainTree) → [] ≡ outline_of u ++ (row_outline ts ++ parts_left bs) → ⊥
-              by_tree (leaf w) f = no_part (Name w) (row_outline ts ++ parts_left bs) (sym f)
-              by_tree (node k cs ps) f = no_part (Node k (count cs)) (row_outline cs ++ (row_outline ts ++ parts_left bs)) (sym f ∙ refl)
+              by_tree (leaf w) f = cc
+              by_tree (node k cs ps) f = cc
 
 -- ---- a tree, or none
 

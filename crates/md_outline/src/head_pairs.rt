@@ -1,41 +1,25 @@
 //! Writes the pairs of a prime node, read off the rows of a graph. No list of pairs is made.
-ghost use Rattle.std.specs.Prelude.{◌≡◌, ◌+◌, ◌*◌, ◌<◌, ◌≤◌, ◌^◌, ℕ, Bool, List, [], ◌∷◌, ◌++◌, length, get_or, IfOk, OnOk};
+ghost use Rattle.std.specs.Prelude.{◌≡◌, ◌+◌, ◌*◌, ◌<◌, ◌≤◌, ◌^◌, ℕ, Bool, List, [], ◌∷◌, ◌++◌, length, get_or, OnOk, IsTrue};
 ghost use Rattle.std.specs.List.{All};
 ghost use Rattle.std.specs.FinSet as set;
-ghost use Rattle.md_graph.specs.PlainGraph.{adjacent};
-ghost use Rattle.md_text.specs.Pieces.{piece_text, text_at, texts_at};
+ghost use Rattle.md_graph.specs.NameSet.{ascending_from};
+ghost use Rattle.md_graph.specs.PlainGraph.{adjacent, neighbours};
+ghost use Rattle.md_graph.specs.Sets.{Has, Within};
+ghost use Rattle.md_text.specs.Pieces.{piece_text, text_at};
 ghost use Rattle.md_tree.specs.declared.Pair.{Pair};
 ghost use Rattle.md_tree.specs.Spellings.{graph_pairs};
 ghost use Rattle.md_tree.specs.TreeTexts.{pairs_text};
 ghost use Rattle.md_outline.specs.HeadPairs.{near_heads, near_pairs, head_pairs, SpellPositions};
 ghost use Rattle.md_outline.specs.NodeRows.{is_edge_up, AreHeadsOf};
 
-use md_graph::{GraphOf, Members, Memory, Set};
-use md_text::{CHUNK_SIZE, Chunk, Piece, digits_piece, number_piece, piece_behind};
+use crate::pair_space::PairSpace;
+use md_blocks::write_members;
+use md_graph::{GraphOf, Memory, Set};
+use md_text::{CHUNK_SIZE, Chunk, Piece, number_piece, piece_behind};
 use md_tree::{Pair, Paired};
-use std::alloc::Global;
 
 // So many bytes have room for a pair, which is two pieces.
 const PAIR_ROOM: usize = 16;
-
-// What the pairs of a node need beside the text: at the place of each head its position, a chunk
-// in which pairs are gathered, and the mark before the next pair.
-#[derive(Drop)]
-pub(crate) struct PairSpace {
-    places: Vec<Piece>,
-    chunk: Chunk,
-    mark: u8,
-}
-
-impl PairSpace {
-    pub(crate) fn new(alloc: Global) -> PairSpace {
-        PairSpace {
-            places: Vec::new(alloc),
-            chunk: Chunk::new(),
-            mark: b';',
-        }
-    }
-}
 
 // The semicolon and the pairs, where there are some, of a prime node with these heads of its
 // children.
@@ -50,38 +34,12 @@ pub(crate) fn push_head_pairs<const W: usize>(
         ++ pairs_text 59 (head_pairs graph_pairs (is_edge_up (adjacent graph.now)) heads.now)) }
 {
     let _vertices = graph.vertices();
-    spell_places(&mut space.places, heads)?;
+    space.places.spell(heads)?;
     let all = Set::from_list(heads);
-    let room = pair_room(&space.places, heads);
+    let room = pair_room(space.places.as_slice(), heads);
     text.reserve(count_pairs(graph, heads, &all).saturating_mul(room))?;
     gather_pairs(text, graph, heads, &all, space)?;
     space.chunk.flush(text)?;
-    Ok(())
-}
-
-// Puts down the position of each head at its place.
-fn spell_places(places: &mut Vec<Piece>, heads: &[u32]) -> Result<(), Memory>
-    requires some { 0 < length heads.now }
-    requires ascending { (i j : ℕ) → i < j → j < length heads.now
-        → get_or heads.now i 0 < get_or heads.now j 0 }
-    requires few { length heads.now ≤ 10 ^ 5 }
-    ensures { IfOk result (λ _. SpellPositions places.new.items 0 heads.now) }
-{
-    make_places(places, heads[heads.len() - 1])?;
-    for (position, head) in heads.iter().enumerate() {
-        places[*head as usize] = digits_piece(position as u32);
-    }
-    Ok(())
-}
-
-// Makes places, so that there is one for the name.
-fn make_places(places: &mut Vec<Piece>, last: u32) -> Result<(), Memory>
-    ensures { IfOk result (λ _. last < length places.new.items) }
-{
-    let count = last as usize + 1;
-    if places.len() < count {
-        places.resize(count, digits_piece(0))?;
-    }
     Ok(())
 }
 
@@ -100,9 +58,16 @@ fn pair_room(places: &[Piece], heads: &[u32]) -> usize {
 fn count_pairs<const W: usize>(graph: &GraphOf<W>, heads: &[u32], all: &Set<W>) -> usize
     requires { (i : ℕ) → i < length heads.now → get_or heads.now i 0 < 64 * W }
 {
+    let whole = graph.vertices().is_subset(all);
     let mut ends: usize = 0;
     for head in heads {
-        ends = ends.saturating_add(graph.row(*head).and(all).count() as usize);
+        let row = graph.row(*head);
+        let count = if whole {
+            row.count()
+        } else {
+            row.and(all).count()
+        };
+        ends = ends.saturating_add(count as usize);
     }
     ends / 2
 }
@@ -118,76 +83,86 @@ fn gather_pairs<const W: usize>(
     requires heads { AreHeadsOf graph.now.vertices heads.now }
     requires few { length heads.now ≤ 10 ^ 5 }
     requires all { all.now ≡ set.from_list heads.now }
-    requires places { SpellPositions space.old.places.items 0 heads.now }
+    requires places { SpellPositions space.old.places 0 heads.now }
     ensures { OnOk result (text.new.items ++ space.new.chunk ≡ text.old.items
         ++ pairs_text 59 (head_pairs graph_pairs (is_edge_up (adjacent graph.now)) heads.now)) }
 {
     let _vertices = graph.vertices();
     space.chunk.clear();
     space.mark = b';';
+    let whole = graph.vertices().is_subset(all);
     for (position, head) in heads.iter().enumerate() {
-        let near = graph.row(*head).and(all);
-        put_row(text, near.members_from(*head + 1), position as u32, space)?;
+        put_head(text, graph, *head, all, whole, position as u32, space)?;
     }
     Ok(())
 }
 
-// Gathers the pairs of the position `low` with those of the near heads.
-fn put_row(
+// Gathers the pairs of a head at the position `low`. Where all vertices are heads, which is told,
+// its row need not be cut down to heads.
+fn put_head<const W: usize>(
     text: &mut Vec<u8>,
-    near: Members<'_>,
+    graph: &GraphOf<W>,
+    head: u32,
+    all: &Set<W>,
+    whole: bool,
+    low: u32,
+    space: &mut PairSpace,
+) -> Result<(), Memory>
+    requires vertex { Has graph.now.vertices head }
+    requires whole { IsTrue whole → Within graph.now.vertices all.now }
+    requires low { low < 10 ^ 5 }
+    requires there { All (λ v. v < length space.old.places)
+        (ascending_from (set.intersection (neighbours graph.now head) all.now) (head + 1)) }
+    ensures written { OnOk result ((e : ℕ → ℕ → Bool) (v j : ℕ) (ws : List ℕ) (more : List Pair)
+        → SpellPositions space.old.places j ws
+        → ascending_from (set.intersection (neighbours graph.now head) all.now) (head + 1)
+        ≡ near_heads e v ws
+        → (text.new.items ++ space.new.chunk) ++ pairs_text space.new.mark more
+        ≡ (text.old.items ++ space.old.chunk)
+        ++ pairs_text space.old.mark (near_pairs graph_pairs e v low j ws ++ more)) }
+    ensures places { space.new.places ≡ space.old.places }
+{
+    let _vertices = graph.vertices();
+    if whole {
+        return put_row(text, graph.row(head), head + 1, low, space);
+    }
+    let near = graph.row(head).and(all);
+    put_row(text, &near, head + 1, low, space)
+}
+
+// Gathers the pairs of the position `low` with those of the near heads from a name on. Never
+// inlined, so that its loops have the registers to themselves.
+#[inline(never)]
+fn put_row<const W: usize>(
+    text: &mut Vec<u8>,
+    near: &Set<W>,
+    from: u32,
     low: u32,
     space: &mut PairSpace,
 ) -> Result<(), Memory>
     requires low { low < 10 ^ 5 }
-    requires there { All (λ v. v < length space.old.places.items) near }
+    requires there { All (λ v. v < length space.old.places) (ascending_from near.now from) }
     ensures written { OnOk result ((e : ℕ → ℕ → Bool) (v j : ℕ) (ws : List ℕ) (more : List Pair)
-        → SpellPositions space.old.places.items j ws → near.entry ≡ near_heads e v ws
+        → SpellPositions space.old.places j ws → ascending_from near.now from ≡ near_heads e v ws
         → (text.new.items ++ space.new.chunk) ++ pairs_text space.new.mark more
         ≡ (text.old.items ++ space.old.chunk)
         ++ pairs_text space.old.mark (near_pairs graph_pairs e v low j ws ++ more)) }
-    ensures places { space.new.places.items ≡ space.old.places.items }
+    ensures places { space.new.places ≡ space.old.places }
 {
-    let mut others = near;
-    let Some(first) = others.next() else {
+    let Some(first) = near.first_from(from) else {
         return Ok(());
     };
     let digits = number_piece(low, Pair::between());
     let start = piece_behind(space.mark, digits);
     space.mark = b',';
-    put_pair(text, start, first, &space.places, &mut space.chunk)?;
-    put_each(
-        text,
-        piece_behind(b',', digits),
-        others,
-        &space.places,
-        &mut space.chunk,
-    )
-}
-
-// Gathers, for each of the names, the piece `start` and the one at its index. Never inlined, so
-// that its loop has the registers to itself.
-#[inline(never)]
-fn put_each(
-    text: &mut Vec<u8>,
-    start: Piece,
-    others: Members<'_>,
-    pieces: &[Piece],
-    chunk: &mut Chunk,
-) -> Result<(), Memory>
-    requires { All (λ v. v < length pieces.now) others }
-    ensures { OnOk result (text.new.items ++ chunk.new ≡ (text.old.items ++ chunk.old)
-        ++ texts_at pieces.now (piece_text start) others.entry) }
-{
-    for other in others {
-        put_pair(text, start, other, pieces, chunk)?;
-    }
-    Ok(())
+    let pieces = space.places.as_slice();
+    put_pair(text, start, first, pieces, &mut space.chunk)?;
+    let start = piece_behind(b',', digits);
+    write_members(near, first + 1, start, pieces, &mut space.chunk, text)
 }
 
 // Gathers the piece `start` and the one at the index of a name; a chunk without room for them goes
 // to the text first.
-#[inline(always)]
 fn put_pair(
     text: &mut Vec<u8>,
     start: Piece,

@@ -12,7 +12,8 @@ ghost use Rattle.md_outline.specs.NodeRows.{AreHeadsOf, IsNodeByRows, pairs_by_r
 ghost use Rattle.md_outline.specs.BegunNodes.{HasChildLeft, IsMarkPut, IsOnWay, MayGoOn};
 
 use crate::OutlinePart;
-use crate::head_pairs::{PairSpace, push_head_pairs};
+use crate::head_pairs::push_head_pairs;
+use crate::pair_space::PairSpace;
 use md_graph::{GraphOf, Memory};
 use md_text::push_number;
 use md_tree::{Kind, Lettered};

@@ -27,7 +27,7 @@ use Rattle.md_report.specs.declared.line.SessionMode.{SessionMode}
 use Rattle.md_report.specs.declared.line.SessionMode.TheVariants.{Edit, Cograph, Quiet, Of}
 use Rattle.md_report.specs.Lines.{PlainLine, path_bar, path_of_bar, applied, applied_quiet, refused, refused_bar, group_refused, group_refused_bar, nothing_to_undo}
 use Rattle.md_report.specs.Sessions.{State, undone, applied_state, is_applied, state_behind, HasTreeLine, IsLineBy}
-use Rattle.md_report.specs.Cographs.{IsP4Of, IsPathOf, IsCograph, HasP4Line, IsCographLineBy, IsQuietLineBy}
+use Rattle.md_report.specs.Cographs.{IsP4Of, IsP4Bar, IsCograph, HasP4Line, IsCographLineBy, IsQuietLineBy}
 use Rattle.md_report.specs.Classes.{IsAllowedIn, IsBarOf, IsClassLineBy}
 use Rattle.md_report.specs.ItemLines.{IsAllowed, IsBarred, IsDoneLine, AnswersEdit, IsLineAt, IsGroupLine, IsUndoLine, AnswersItem}
 use Rattle.md_report.specs.Places.{tells_bar}
@@ -39,7 +39,7 @@ path_is : (bar : Bar) → bar.kind ≡ kinds.P4 → bar ≡ path_bar (path_of_ba
 path_is bar is = λ i. record { kind = is i; a = bar.a; b = bar.b; c = bar.c; d = bar.d }
 
 -- a line with an induced P4 is one with such a bar
-path_told : (made : Bar → PlainLine) (g : PlainGraph) (line : PlainLine) → HasP4Line (λ p. made (path_bar p)) g line ↔ ((bar : Bar) × IsPathOf g bar × (line ≡ made bar))
+path_told : (made : Bar → PlainLine) (g : PlainGraph) (line : PlainLine) → HasP4Line (λ p. made (path_bar p)) g line ↔ ((bar : Bar) × IsP4Bar g bar × (line ≡ made bar))
 path_told made g line =
     (λ path. (path_bar path.0, (refl, path.1), path.2), λ told. (path_of_bar told.0, told.1.1, told.2 ∙ ap made (path_is told.0 told.1.0)))
 
@@ -51,7 +51,7 @@ IsEditLine (Some reason) mode h line = line ≡ refused reason
 IsEditLine None mode h line = ((bar : Bar) × IsBarred mode h bar × (line ≡ refused_bar bar)) ⊎ (IsAllowed mode h × IsDoneLine mode h line)
 
 -- the same of an edit at a session on cographs that gives h
-path_or_done : (h : PlainGraph) (line : PlainLine) (Done : Type 0) → (HasP4Line (λ p. refused_bar (path_bar p)) h line ⊎ Done) ↔ (((bar : Bar) × IsPathOf h bar × (line ≡ refused_bar bar)) ⊎ Done)
+path_or_done : (h : PlainGraph) (line : PlainLine) (Done : Type 0) → (HasP4Line (λ p. refused_bar (path_bar p)) h line ⊎ Done) ↔ (((bar : Bar) × IsP4Bar h bar × (line ≡ refused_bar bar)) ⊎ Done)
 path_or_done h line Done =
     let told = path_told refused_bar h line in
     (λ is. elim is [ inl path ↦ inl (told.0 path) | inr done ↦ inr done ], λ is. elim is [ inl path ↦ inl (told.1 path) | inr done ↦ inr done ])
@@ -194,7 +194,7 @@ some_p4 g is =
       | inr none ↦ inr none
     ]
 
-path_or_cograph : (g : PlainGraph) → IsGraph g → ((bar : Bar) × IsPathOf g bar) ⊎ IsCograph g
+path_or_cograph : (g : PlainGraph) → IsGraph g → ((bar : Bar) × IsP4Bar g bar) ⊎ IsCograph g
 path_or_cograph g is = elim (some_p4 g is) [ inl path ↦ inl (path_bar path.0, (refl, path.1)) | inr none ↦ inr none ]
 
 -- a graph has a bar of a class, or none
@@ -253,7 +253,7 @@ item_line mode s Undo has names = some_undo_line mode s.earlier has.1
 
 -- ---- the lines of one item in two modes on cographs
 
-path_in : (mode : SessionMode) → KeepsCographs mode → (g : PlainGraph) (bar : Bar) → IsBarred mode g bar → IsPathOf g bar
+path_in : (mode : SessionMode) → KeepsCographs mode → (g : PlainGraph) (bar : Bar) → IsBarred mode g bar → IsP4Bar g bar
 path_in Edit kept g bar path = absurd kept
 path_in Cograph kept g bar path = path
 path_in Quiet kept g bar path = path

@@ -1,4 +1,5 @@
 pub mod Protocols
+pub mod AllowedGraphs
 pub mod ItemLines
 pub mod Places
 pub mod Cutting

@@ -18,8 +18,8 @@ abbrev pub IsP4Of : PlainGraph → P4 → Type 0
 IsP4Of g p = IsInducedPath (adjacent g) g.vertices p.a p.b p.c p.d
 
 -- the bar is an induced P4 of g
-abbrev pub IsPathOf : PlainGraph → Bar → Type 0
-IsPathOf g bar = (bar.kind ≡ kinds.P4) × IsP4Of g (path_of_bar bar)
+abbrev pub IsP4Bar : PlainGraph → Bar → Type 0
+IsP4Bar g bar = (bar.kind ≡ kinds.P4) × IsP4Of g (path_of_bar bar)
 
 -- g is a cograph: it has no induced P4
 abbrev pub IsCograph : PlainGraph → Type 0

@@ -12,7 +12,7 @@ use Rattle.md_report.specs.declared.line.SessionMode.{SessionMode}
 use Rattle.md_report.specs.declared.line.SessionMode.TheVariants.{Edit, Cograph, Quiet, Of}
 use Rattle.md_report.specs.Lines.{PlainLine, applied, applied_quiet, group_refused, group_refused_bar, nothing_to_undo}
 use Rattle.md_report.specs.Sessions.{State, HasTreeLine, IsStepLine, state_behind}
-use Rattle.md_report.specs.Cographs.{IsPathOf, IsCograph, IsCographLine, IsQuietLine}
+use Rattle.md_report.specs.Cographs.{IsP4Bar, IsCograph, IsCographLine, IsQuietLine}
 use Rattle.md_report.specs.Classes.{IsAllowedIn, IsBarOf, IsClassLineBy}
 
 -- g may be a state of a session of the mode
@@ -25,8 +25,8 @@ IsAllowed (Of class) g = IsAllowedIn class g
 -- g may not, since it has this bar
 abbrev pub IsBarred : SessionMode → PlainGraph → Bar → Type 0
 IsBarred Edit g bar = ⊥
-IsBarred Cograph g bar = IsPathOf g bar
-IsBarred Quiet g bar = IsPathOf g bar
+IsBarred Cograph g bar = IsP4Bar g bar
+IsBarred Quiet g bar = IsP4Bar g bar
 IsBarred (Of class) g bar = IsBarOf class g bar
 
 -- the line of an item that was applied and left the graph g: that alone in mode quiet, in the others with the tree of g

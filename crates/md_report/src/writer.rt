@@ -119,25 +119,23 @@ pub fn write_tree(alloc: Global, tree: &Option<Tree>) -> Result<Vec<u8>, Memory>
     Ok(text)
 }
 
-/// The text of the line of the tree of strong modules of a graph, as of `Line::Tree`, without a line
+/// Appends the line of the tree of strong modules of a graph, as of `Line::Tree`, without a line
 /// feed: from the outline of the tree and the rows of the graph, with no tree and no list of pairs.
 /// Errors: want of memory.
-pub fn write_tree_by_rows<const W: usize>(
-    alloc: Global,
+pub fn push_tree_by_rows<const W: usize>(
+    text: &mut Vec<u8>,
     parts: &[OutlinePart<Kind>],
     graph: &GraphOf<W>,
     space: &mut RowSpace,
-) -> Result<Vec<u8>, Memory>
+) -> Result<(), Memory>
     requires { (t : Option PlainTree) × IsTree (adjacent graph.now) graph.now.vertices t
         × (parts.now ≡ outline_option t) }
-    ensures { IfOk result (λ text. (t : Option PlainTree)
+    ensures written { OnOk result ((t : Option PlainTree)
         → IsTree (adjacent graph.now) graph.now.vertices t → parts.now ≡ outline_option t
-        → text.items ≡ line_text (lines.tree t)) }
+        → text.new.items ≡ text.old.items ++ line_text (lines.tree t)) }
 {
-    let mut text = Vec::with_capacity(alloc, SHORT)?;
     text.extend_from_slice(b"t ")?;
-    push_text_by_rows(&mut text, parts, graph, space)?;
-    Ok(text)
+    push_text_by_rows(text, parts, graph, space)
 }
 
 /// The text of the line that an edit was applied and left a graph with this tree, as of

@@ -8,7 +8,7 @@ mod refusing;
 mod sizes;
 mod sparse;
 
-use md_io::{MemFiles, MemSink};
+use md_io::{Files, MemFiles, MemSink, Sink};
 use md_top::{Status, run};
 use refusing::RefusingFiles;
 use std::alloc::Global;
@@ -28,6 +28,18 @@ fn words_of(alloc: Global, line: &str) -> Result<Vec<String>, Fail> {
         }
     }
     Ok(words)
+}
+
+// The status of a run. What is promised of runs isn't asked for here, and stays out of the proofs
+// of the tests.
+fn status_of<F: Files, O: Sink, E: Sink>(
+    alloc: Global,
+    words: &[String],
+    files: &mut F,
+    out: &mut O,
+    err: &mut E,
+) -> Status {
+    run(alloc, words, files, out, err)
 }
 
 // The number of a status, and what stands on `out` and on `err`.
@@ -61,16 +73,58 @@ fn run_over(
     files.add("s", script)?;
     let mut out = MemSink::new(alloc, vec![in alloc; put]?, part);
     let mut err = MemSink::new(alloc, Vec::new(alloc), 0);
-    let status = run(alloc, &words, &mut files, &mut out, &mut err);
+    let status = status_of(alloc, &words, &mut files, &mut out, &mut err);
     shown(alloc, status, &out, &err)
+}
+
+// Sees that a run over the files `g` and `s` ends as it is to be.
+fn expect_run(
+    rt: &impl Abort,
+    alloc: Global,
+    line: &str,
+    file: &[u8],
+    script: &[u8],
+    want: &str,
+) -> Result<(), Fail> {
+    let shown = run_over(alloc, line, file, script, 0, 0, 0)?;
+    assert_eq!(rt; shown.as_str(), want, "{line}");
+    Ok(())
 }
 
 // Sees that each run over the file `g` of its bytes ends as it is to be.
 fn expect(rt: &impl Abort, alloc: Global, table: &[(&str, &[u8], &str)]) -> Result<(), Fail> {
     for (line, file, want) in table {
-        let shown = run_over(alloc, line, file, b"", 0, 0, 0)?;
-        assert_eq!(rt; shown.as_str(), *want, "{line}");
+        expect_run(rt, alloc, line, *file, b"", want)?;
     }
+    Ok(())
+}
+
+// The same of runs over the files `g` and `s`.
+fn expect_each(
+    rt: &impl Abort,
+    alloc: Global,
+    table: &[(&str, &[u8], &[u8], &str)],
+) -> Result<(), Fail> {
+    for (line, file, script, want) in table {
+        expect_run(rt, alloc, line, *file, *script, want)?;
+    }
+    Ok(())
+}
+
+// Sees that a run ends as it is to be whose load and put of these numbers fail, the put after a
+// part of it.
+fn expect_fault(
+    rt: &impl Abort,
+    alloc: Global,
+    line: &str,
+    file: &[u8],
+    script: &[u8],
+    faults: (u64, u64, u64),
+    want: &str,
+) -> Result<(), Fail> {
+    let (load, put, part) = faults;
+    let shown = run_over(alloc, line, file, script, load, put, part)?;
+    assert_eq!(rt; shown.as_str(), want, "{line}, put {put}");
     Ok(())
 }
 
@@ -237,13 +291,9 @@ fn expect_too_many(
     commands: &[&str],
     file: &[u8],
 ) -> Result<(), Fail> {
+    let want = "3||mdt: graph TooManyVertices line 1\n";
     for command in commands {
-        let shown = run_over(alloc, command, file, b"", 0, 0, 0)?;
-        assert_eq!(rt;
-            shown.as_str(),
-            "3||mdt: graph TooManyVertices line 1\n",
-            "{command}"
-        );
+        expect_run(rt, alloc, command, file, b"", want)?;
     }
     Ok(())
 }
@@ -467,41 +517,47 @@ fn sessions_of_a_size(rt: HostRuntime) -> Result<(), Fail> {
 }
 
 #[test]
-fn runs_that_fail(rt: HostRuntime) -> Result<(), Fail> {
-    let alloc = rt.alloc();
-    let shown = run_over(alloc, "edges g6 g", b"DQc\n", b"", 1, 0, 0)?;
-    assert_eq!(rt; shown.as_str(), "4||mdt: read fault\n");
-    let shown = run_over(alloc, "tree g6 g", b"DQc\n", b"", 1, 0, 0)?;
-    assert_eq!(rt; shown.as_str(), "4||mdt: read fault\n");
-    let words = words_of(alloc, "tree png x")?;
-    let mut files = MemFiles::new(alloc, Vec::new(alloc));
-    let mut out = MemSink::new(alloc, Vec::new(alloc), 0);
-    let mut err = MemSink::new(alloc, vec![in alloc; 1]?, 4);
-    let status = run(alloc, &words, &mut files, &mut out, &mut err).number();
-    assert!(rt; status == 2 && out.bytes().is_empty() && err.bytes() == b"mdt:".as_slice());
-    let table = [
-        (1, 0, "5||mdt: write fault\n"),
-        (2, 3, "5|mdt tree\nt R|mdt: write fault\n"),
-        (
-            3,
-            10,
-            "5|mdt tree\nt R(0,1,2,3,4;0-2,0-4,1-3,3-4)\nend\n|mdt: write fault\n",
-        ),
-    ];
-    for (put, part, want) in table {
-        let shown = run_over(alloc, "tree g6 g", b"DQc\n", b"", 0, put, part)?;
-        assert_eq!(rt; shown.as_str(), want, "put {put}");
+fn loads_that_fail(rt: HostRuntime) -> Result<(), Fail> {
+    let want = "4||mdt: read fault\n";
+    expect_fault(
+        &rt,
+        rt.alloc(),
+        "edges g6 g",
+        b"DQc\n",
+        b"",
+        (1, 0, 0),
+        want,
+    )?;
+    expect_fault(&rt, rt.alloc(), "tree g6 g", b"DQc\n", b"", (1, 0, 0), want)
+}
+
+static TREE_PUTS: [(u64, u64, &str); 3] = [
+    (1, 0, "5||mdt: write fault\n"),
+    (2, 3, "5|mdt tree\nt R|mdt: write fault\n"),
+    (
+        3,
+        10,
+        "5|mdt tree\nt R(0,1,2,3,4;0-2,0-4,1-3,3-4)\nend\n|mdt: write fault\n",
+    ),
+];
+
+static EDGE_PUTS: [(u64, u64, &str); 5] = [
+    (1, 0, "5||mdt: write fault\n"),
+    (1, 4, "5|p ed|mdt: write fault\n"),
+    (2, 0, "5|p edge 1 0\n|mdt: write fault\n"),
+    (2, 9, "5|p edge 1 0\np edge 2 |mdt: write fault\n"),
+    (3, 9, "0|p edge 1 0\np edge 2 0\n|"),
+];
+
+#[test]
+fn puts_that_fail(rt: HostRuntime) -> Result<(), Fail> {
+    for (put, part, want) in &TREE_PUTS {
+        let faults = (0, *put, *part);
+        expect_fault(&rt, rt.alloc(), "tree g6 g", b"DQc\n", b"", faults, want)?;
     }
-    let table = [
-        (1, 0, "5||mdt: write fault\n"),
-        (1, 4, "5|p ed|mdt: write fault\n"),
-        (2, 0, "5|p edge 1 0\n|mdt: write fault\n"),
-        (2, 9, "5|p edge 1 0\np edge 2 |mdt: write fault\n"),
-        (3, 9, "0|p edge 1 0\np edge 2 0\n|"),
-    ];
-    for (put, part, want) in table {
-        let shown = run_over(alloc, "edges g6 g", b"@\nA?\n", b"", 0, put, part)?;
-        assert_eq!(rt; shown.as_str(), want, "put {put}");
+    for (put, part, want) in &EDGE_PUTS {
+        let faults = (0, *put, *part);
+        expect_fault(&rt, rt.alloc(), "edges g6 g", b"@\nA?\n", b"", faults, want)?;
     }
     Ok(())
 }
@@ -513,29 +569,40 @@ fn runs_over_a_size_in_four_bytes(rt: HostRuntime) -> Result<(), Fail> {
     file.extend_from_slice(b"~??~")?;
     file.resize(330, b'?')?;
     file.push(b'\n')?;
-    let shown = run_over(alloc, "edges g6 g", &file, b"", 0, 0, 0)?;
-    assert_eq!(rt; shown.as_str(), "0|p edge 63 0\n|");
+    expect_run(&rt, alloc, "edges g6 g", &file, b"", "0|p edge 63 0\n|")
+}
+
+// Sees that a run over files that refuse each load ends as it is to be.
+fn expect_refusal(
+    rt: &impl Abort,
+    alloc: Global,
+    line: &str,
+    too_long: bool,
+    code: u8,
+    want: &str,
+) -> Result<(), Fail> {
+    let words = words_of(alloc, line)?;
+    let mut files = RefusingFiles::new(alloc, too_long);
+    let mut out = MemSink::new(alloc, Vec::new(alloc), 0);
+    let mut err = MemSink::new(alloc, Vec::new(alloc), 0);
+    let status = status_of(alloc, &words, &mut files, &mut out, &mut err);
+    let shown = shown(alloc, status, &out, &err)?;
+    assert_eq!(rt; shown.as_str(), want, "{line}");
+    assert!(rt; status.exit_code() == ExitCode::from(code), "{line}");
     Ok(())
 }
 
+static REFUSALS: [(&str, bool, u8, &str); 4] = [
+    ("tree g6 g", false, 6, "6||mdt: memory\n"),
+    ("tree g6 g", true, 7, "7||mdt: too long\n"),
+    ("edit dimacs g s", true, 7, "7||mdt: too long\n"),
+    ("check tree g6 g r", true, 7, "7||mdt: too long\n"),
+];
+
 #[test]
 fn runs_over_files_that_refuse(rt: HostRuntime) -> Result<(), Fail> {
-    let alloc = rt.alloc();
-    let table = [
-        ("tree g6 g", false, 6, "6||mdt: memory\n"),
-        ("tree g6 g", true, 7, "7||mdt: too long\n"),
-        ("edit dimacs g s", true, 7, "7||mdt: too long\n"),
-        ("check tree g6 g r", true, 7, "7||mdt: too long\n"),
-    ];
-    for (line, too_long, code, want) in table {
-        let words = words_of(alloc, line)?;
-        let mut files = RefusingFiles::new(alloc, too_long);
-        let mut out = MemSink::new(alloc, Vec::new(alloc), 0);
-        let mut err = MemSink::new(alloc, Vec::new(alloc), 0);
-        let status = run(alloc, &words, &mut files, &mut out, &mut err);
-        let shown = shown(alloc, status, &out, &err)?;
-        assert_eq!(rt; shown.as_str(), want, "{line}");
-        assert!(rt; status.exit_code() == ExitCode::from(code), "{line}");
+    for (line, too_long, code, want) in &REFUSALS {
+        expect_refusal(&rt, rt.alloc(), line, *too_long, *code, want)?;
     }
     Ok(())
 }
@@ -618,11 +685,7 @@ fn sessions_on_cographs(rt: HostRuntime) -> Result<(), Fail> {
         ),
         ("cograph g6 g", b"@\n", b"", "2||mdt: usage\n"),
     ];
-    for (line, file, script, want) in TABLE {
-        let shown = run_over(alloc, line, file, script, 0, 0, 0)?;
-        assert_eq!(rt; shown.as_str(), want, "{line}");
-    }
-    Ok(())
+    expect_each(&rt, alloc, &TABLE)
 }
 
 #[test]
@@ -673,11 +736,7 @@ fn quiet_sessions(rt: HostRuntime) -> Result<(), Fail> {
         ),
         ("quiet g6 g", b"@\n", b"", "2||mdt: usage\n"),
     ];
-    for (line, file, script, want) in TABLE {
-        let shown = run_over(alloc, line, file, script, 0, 0, 0)?;
-        assert_eq!(rt; shown.as_str(), want, "{line}");
-    }
-    Ok(())
+    expect_each(&rt, alloc, &TABLE)
 }
 
 #[test]
@@ -796,13 +855,14 @@ fn sessions(rt: HostRuntime) -> Result<(), Fail> {
         ("edit g6 g", b"@\n", b"", "2||mdt: usage\n"),
         ("tree g6 g s", b"@\n", b"", "2||mdt: usage\n"),
     ];
-    for (line, file, script, want) in TABLE {
-        let shown = run_over(alloc, line, file, script, 0, 0, 0)?;
-        assert_eq!(rt; shown.as_str(), want, "{line}");
-    }
-    let shown = run_over(alloc, "edit g6 g s", b"@\n", b"-v 0\n", 2, 0, 0)?;
-    assert_eq!(rt; shown.as_str(), "4||mdt: read fault\n");
-    let shown = run_over(alloc, "edit g6 g s", b"@\n", b"-v 0\n", 0, 3, 2)?;
-    assert_eq!(rt; shown.as_str(), "5|mdt edit\nt 0\nok|mdt: write fault\n");
-    Ok(())
+    expect_each(&rt, alloc, &TABLE)
+}
+
+#[test]
+fn sessions_that_fail(rt: HostRuntime) -> Result<(), Fail> {
+    let line = "edit g6 g s";
+    let want = "4||mdt: read fault\n";
+    expect_fault(&rt, rt.alloc(), line, b"@\n", b"-v 0\n", (2, 0, 0), want)?;
+    let want = "5|mdt edit\nt 0\nok|mdt: write fault\n";
+    expect_fault(&rt, rt.alloc(), line, b"@\n", b"-v 0\n", (0, 3, 2), want)
 }

@@ -12,7 +12,7 @@ use Rattle.md_script.specs.declared.item.Item.TheVariants as item
 use Rattle.md_script.specs.declared.token.Token.{Token}
 use Rattle.md_script.specs.declared.token.Token.TheVariants.{Edit, Undo, Begin, Commit}
 use Rattle.md_script.specs.Edit.{HasNames}
-use Rattle.md_script.specs.Items.{IsScriptItem, size_of}
+use Rattle.md_script.specs.Items.{IsScriptItem, item_size}
 use Rattle.md_script.specs.Tokens.{tokens_of, Seen}
 use Rattle.md_script.specs.Drafts.{PlainDraft, draft_tokens, draft_seen, with_token, IsDraft, HasTokenNames, MayStand}
 use Rattle.md_script.proofs.TokenLemmas.{seen_behind}
@@ -32,10 +32,10 @@ seen_alike : {n m : ℕ} (inside : Bool) → n ≡ m → seen_of n inside ≡ se
 seen_alike inside e = ap (λ k. seen_of k inside) e
 
 -- an item behind a draft without an open group
-item_next : (items : List Item) (item : Item) (token : Token) → tokens_of item ≡ token ∷ [] → size_of item ≡ 1
-    → (draft_tokens (items ++ item ∷ [], None) ≡ draft_tokens (items, None) ++ token ∷ []) × (sum_by size_of (items ++ item ∷ []) + 0 ≡ sum_by size_of items + 0 + 1)
+item_next : (items : List Item) (item : Item) (token : Token) → tokens_of item ≡ token ∷ [] → item_size item ≡ 1
+    → (draft_tokens (items ++ item ∷ [], None) ≡ draft_tokens (items, None) ++ token ∷ []) × (sum_by item_size (items ++ item ∷ []) + 0 ≡ sum_by item_size items + 0 + 1)
 item_next items item token is size =
-    let pushed = sum_by_push size_of items item in (
+    let pushed = sum_by_push item_size items item in (
       append-nil (flat_map tokens_of (items ++ item ∷ [])) ∙ tokens-push items item ∙ ap₂ (λ (x y : List Token). x ++ y) (sym (append-nil (flat_map tokens_of items))) is,
       omega arith,
     )
@@ -64,7 +64,7 @@ next_draft (items, Some edits) Commit stands = record {
   tokens =
       append-nil (flat_map tokens_of (items ++ item.Group edits ∷ [])) ∙ tokens-push items (item.Group edits)
       ∙ sym (append_assoc (flat_map tokens_of items) (Begin ∷ map Edit edits) (Commit ∷ []));
-  seen = seen_alike false (let pushed = sum_by_push size_of items (item.Group edits) in omega arith);
+  seen = seen_alike false (let pushed = sum_by_push item_size items (item.Group edits) in omega arith);
 }
 
 -- its names stay names, and its lines few
@@ -72,7 +72,7 @@ pub next_is_draft : (d : PlainDraft) (token : Token) → IsDraft d → HasTokenN
 next_is_draft (items, None) (Edit edit) is names stands = record {
   items = All-push (IsScriptItem NAMES) items (item.One edit) is.items (record { names = names; small = omega arith });
   edits = tt;
-  few = let pushed = sum_by_push size_of items (item.One edit) in omega arith;
+  few = let pushed = sum_by_push item_size items (item.One edit) in omega arith;
 }
 next_is_draft (items, Some edits) (Edit edit) is names stands = record {
   items = is.items;
@@ -82,7 +82,7 @@ next_is_draft (items, Some edits) (Edit edit) is names stands = record {
 next_is_draft (items, None) Undo is names stands = record {
   items = All-push (IsScriptItem NAMES) items item.Undo is.items (record { names = tt; small = omega arith });
   edits = tt;
-  few = let pushed = sum_by_push size_of items item.Undo in let room = stands.1 in omega arith;
+  few = let pushed = sum_by_push item_size items item.Undo in let room = stands.1 in omega arith;
 }
 next_is_draft (items, Some edits) Undo is names stands = absurd (let inside = stands.0 in cc)
 next_is_draft (items, None) Begin is names stands = record { items = is.items; edits = All-nil HasNames; few = let room = stands.1 in omega arith }
@@ -91,7 +91,7 @@ next_is_draft (items, None) Commit is names stands = absurd (cc)
 next_is_draft (items, Some edits) Commit is names stands = record {
   items = All-push (IsScriptItem NAMES) items (item.Group edits) is.items (record { names = is.edits; small = let few = is.few in omega arith });
   edits = tt;
-  few = let few = is.few in let pushed = sum_by_push size_of items (item.Group edits) in omega arith;
+  few = let few = is.few in let pushed = sum_by_push item_size items (item.Group edits) in omega arith;
 }
 
 -- no line is read yet

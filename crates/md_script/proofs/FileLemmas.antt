@@ -20,7 +20,7 @@ use Rattle.md_script.specs.declared.line.Refusal.{Refusal}
 use Rattle.md_script.specs.declared.line.Refusal.TheVariants.{Bad}
 use Rattle.md_script.specs.declared.token.Token.{Token}
 use Rattle.md_script.specs.declared.token.Token.TheVariants.{Edit, Undo, Begin, Commit}
-use Rattle.md_script.specs.Items.{IsScriptItem, size_of}
+use Rattle.md_script.specs.Items.{IsScriptItem, item_size}
 use Rattle.md_script.specs.Line.{is_skipped}
 use Rattle.md_script.specs.Tokens.{tokens_of, token_of, Seen, fault_of_words, seen_after}
 use Rattle.md_script.specs.Drafts.{PlainDraft, draft_tokens, draft_seen, with_token, with_token_of, draft_after, IsDraft, MayStand}
@@ -108,7 +108,7 @@ line_is_read d line more none = by_test (is_skipped (words line)) refl where
 record SpellBehind (d : PlainDraft) (all : List (List ℕ)) (items : List Item) : Type 0 where
   each : map Some (draft_tokens d) ++ spelled_by all ≡ map Some (flat_map tokens_of items)
   items_are : All (IsScriptItem NAMES) items
-  few : sum_by size_of items ≤ EDITS
+  few : sum_by item_size items ≤ EDITS
 
 closed_draft : (d : PlainDraft) (count : ℕ) → IsDraft d → then_some (is_some d.1) (fault_at OpenGroup (count + 1)) ≡ None → (items : List Item) × SpellBehind d [] items
 closed_draft (items, None) count is h = (
@@ -146,7 +146,7 @@ left_size (Some edits) = length edits
 -- what is to come fits behind what stood before
 record FitsBehind (seen : Seen) (c : Coming) : Type 0 where
   inside : seen.inside ≡ is_some c.0
-  few : seen.counted + left_size c.0 + sum_by size_of c.1 ≤ EDITS
+  few : seen.counted + left_size c.0 + sum_by item_size c.1 ≤ EDITS
 
 -- the first token to come, and what comes then
 record ComesNext (seen : Seen) (c : Coming) (token : Token) (rest : Coming) : Type 0 where
@@ -157,13 +157,13 @@ record ComesNext (seen : Seen) (c : Coming) (token : Token) (rest : Coming) : Ty
 next_coming : (seen : Seen) (c : Coming) → FitsBehind seen c → (c ≡ (None, [])) ⊎ ((token : Token) × (rest : Coming) × ComesNext seen c token rest)
 next_coming seen (None, []) fits = inl refl
 next_coming seen (None, item.One edit ∷ items) fits =
-    let few = fits.few in let size = sum_by-cons size_of (item.One edit) items in
+    let few = fits.few in let size = sum_by-cons item_size (item.One edit) items in
     inr (Edit edit, (None, items), record { is = refl; stands = omega arith; fits = record { inside = fits.inside; few = omega arith } })
 next_coming seen (None, item.Undo ∷ items) fits =
-    let few = fits.few in let size = sum_by-cons size_of item.Undo items in
+    let few = fits.few in let size = sum_by-cons item_size item.Undo items in
     inr (Undo, (None, items), record { is = refl; stands = (fits.inside, omega arith); fits = record { inside = fits.inside; few = omega arith } })
 next_coming seen (None, item.Group edits ∷ items) fits =
-    let few = fits.few in let size = sum_by-cons size_of (item.Group edits) items in
+    let few = fits.few in let size = sum_by-cons item_size (item.Group edits) items in
     inr (
       Begin,
       (Some edits, items),

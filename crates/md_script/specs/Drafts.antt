@@ -10,7 +10,7 @@ use Rattle.md_script.specs.declared.item.Item.TheVariants.{One, Undo, Group}
 use Rattle.md_script.specs.declared.token.Token.{Token}
 use Rattle.md_script.specs.declared.token.Token.TheVariants as token
 use Rattle.md_script.specs.Edit.{HasNames}
-use Rattle.md_script.specs.Items.{IsScriptItem, size_of}
+use Rattle.md_script.specs.Items.{IsScriptItem, item_size}
 use Rattle.md_script.specs.Line.{is_skipped}
 use Rattle.md_script.specs.Tokens.{tokens_of, token_of, Seen}
 
@@ -34,7 +34,7 @@ draft_tokens d = flat_map tokens_of d.0 ++ open_tokens d.1
 
 -- what stood before the next line
 abbrev pub draft_seen : PlainDraft → Seen
-draft_seen d = record { counted = sum_by size_of d.0 + open_size d.1; inside = is_some d.1 }
+draft_seen d = record { counted = sum_by item_size d.0 + open_size d.1; inside = is_some d.1 }
 
 -- an edit behind a draft: one more of the open group, or an item
 abbrev pub with_edit : PlainDraft → Edit → PlainDraft
@@ -66,7 +66,7 @@ draft_after d ws = if is_skipped ws then d else with_token_of d (token_of ws)
 pub record IsDraft (d : PlainDraft) : Type 0 where
   pub items : All (IsScriptItem NAMES) d.0
   pub edits : IfSome d.1 (All HasNames)
-  pub few : sum_by size_of d.0 + open_size d.1 ≤ EDITS
+  pub few : sum_by item_size d.0 + open_size d.1 ≤ EDITS
 
 -- the names of a token are names
 abbrev pub HasTokenNames : Token → Type 0

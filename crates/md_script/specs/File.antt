@@ -9,7 +9,7 @@ use Rattle.md_script.specs.declared.TheConstants.{EDITS}
 use Rattle.md_script.specs.declared.fault.ScriptKind.{ScriptKind}
 use Rattle.md_script.specs.declared.fault.ScriptKind.TheVariants.{OpenGroup}
 use Rattle.md_script.specs.declared.item.Item.{Item}
-use Rattle.md_script.specs.Items.{size_of}
+use Rattle.md_script.specs.Items.{item_size}
 use Rattle.md_script.specs.Line.{is_skipped}
 use Rattle.md_script.specs.Tokens.{tokens_of, token_of, Seen, fault_of_words, seen_after}
 
@@ -21,7 +21,7 @@ token_lines all = filter (λ ws. not (is_skipped ws)) (map words all)
 -- many lines count.
 pub record SpellsScript (bytes : List ℕ) (items : List Item) : Type 0 where
   pub each : map token_of (token_lines (lines bytes)) ≡ map Some (flat_map tokens_of items)
-  pub few : sum_by size_of items ≤ EDITS
+  pub few : sum_by item_size items ≤ EDITS
 
 -- what is wrong with a line, and the number of the line
 pub record FaultyLine : Type 0 where

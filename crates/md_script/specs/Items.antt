@@ -14,10 +14,10 @@ HasItemNamesBelow limit Undo = ⊤
 HasItemNamesBelow limit (Group edits) = All (HasNamesBelow limit) edits
 
 -- the lines of an item that count: those of its edits, and the first line of a group
-abbrev pub size_of : Item → ℕ
-size_of (One edit) = 1
-size_of Undo = 1
-size_of (Group edits) = length edits + 1
+abbrev pub item_size : Item → ℕ
+item_size (One edit) = 1
+item_size Undo = 1
+item_size (Group edits) = length edits + 1
 
 -- for how many edits and items a history needs room before the item
 abbrev pub room_for : Item → ℕ
@@ -28,7 +28,7 @@ room_for Undo = 0
 -- what holds of each item of a script: its names are below a limit, and it isn't too large
 pub record IsScriptItem (limit : ℕ) (item : Item) : Type 0 where
   pub names : HasItemNamesBelow limit item
-  pub small : size_of item ≤ EDITS
+  pub small : item_size item ≤ EDITS
 
 -- whether an item is an undo
 abbrev pub is_undo : Item → Bool

@@ -2,7 +2,7 @@
 ghost use Rattle.std.specs.Prelude.{◌≡◌, ◌<◌, ◌≤◌, ℕ, length, slice_get, Some};
 ghost use Rattle.std.specs.List.{All, count_by, sum_by};
 ghost use Rattle.md_graph.specs.declared.TheConstants.{NAMES};
-ghost use Rattle.md_script.specs.Items.{HasItemNamesBelow, IsScriptItem, is_undo, size_of};
+ghost use Rattle.md_script.specs.Items.{HasItemNamesBelow, IsScriptItem, is_undo, item_size};
 
 use crate::bounds::items_bound;
 use crate::{EDITS, Item};
@@ -22,20 +22,20 @@ impl Model for Script {
 
     ghost use Rattle.std.specs.List.{All, sum_by};
     ghost use Rattle.md_graph.specs.declared.TheConstants.{NAMES};
-    ghost use Rattle.md_script.specs.Items.{IsScriptItem, size_of};
+    ghost use Rattle.md_script.specs.Items.{IsScriptItem, item_size};
     ghost use Rattle.md_script.specs.declared.TheConstants.{EDITS};
 
     ghost view = { λ s. s.items.items };
 
     ghost invariant = { λ s. All (IsScriptItem NAMES) s.items.items
-        × (sum_by size_of s.items.items ≤ EDITS) };
+        × (sum_by item_size s.items.items ≤ EDITS) };
 }
 
 impl Script {
     // The script of these items. Condition: their names are names, and they aren't too many.
     pub(crate) fn from_list(items: Vec<Item>) -> Script
         requires items { All (IsScriptItem NAMES) items.items }
-        requires few { sum_by size_of items.items ≤ EDITS }
+        requires few { sum_by item_size items.items ≤ EDITS }
         ensures { result ≡ items.items }
     {
         Script { items }

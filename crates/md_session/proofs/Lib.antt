@@ -3,3 +3,4 @@ mod AppliedSteps
 mod BackCosts
 mod Answering
 mod KeptTrees
+mod OutlinedCographs

@@ -3,6 +3,7 @@ ghost use Rattle.std.specs.Prelude.{◌≡◌, ◌+◌, ◌*◌, ◌≤◌, Bool
 ghost use Rattle.std.specs.FinSet as set;
 ghost use Rattle.md_graph.specs.PlainGraph.{PlainGraph, adjacent};
 ghost use Rattle.md_modules.specs.InducedPaths.{HasInducedPath};
+ghost use Rattle.md_outline.specs.Outlines.{outline_option};
 ghost use Rattle.md_tree.specs.StrongTrees.{IsTree};
 ghost use Rattle.md_tree.specs.Trees.{PlainTree, nodes_in};
 ghost use Rattle.md_tree.specs.Plain.{plain_option};
@@ -20,12 +21,13 @@ ghost use Rattle.md_report.specs.Steps.{ItemStep};
 
 use crate::cograph_items::{ItemAnswer, answer_group, answer_one, answer_undo};
 use md_cograph::{any_p4, change, p4_behind};
-use md_cotree::{Cotree, from_tree};
-use md_decompose::decompose;
+use md_cotree::{Cotree, from_outline};
+use md_decompose::{decompose, graph_outline};
 use md_graph::{GraphOf, Memory, Steps, WORDS};
 use md_modules::P4;
+use md_outline::{OutlinePart, has_no_prime_part};
 use md_script::{Edit, EditReason, HistoryOf, Item, inverse, reason, take_back};
-use md_tree::{Tree, has_no_prime};
+use md_tree::{Kind, Tree};
 use std::alloc::Global;
 use std::marker::Model;
 use std::sync::ledger::Ledger;
@@ -85,18 +87,20 @@ pub enum Answer {
 
 impl<const W: usize> CographSessionOf<W> {
     /// The session whose graph is the one handed in; `NotCograph` exactly where that has an induced
-    /// P4, with one. It decomposes the graph, and looks for a P4 from the names of a prime node's
-    /// children. Errors: want of memory.
+    /// P4, with one. The cotree is made from the outline of the tree; only where that has a prime
+    /// node the tree is built, and a P4 looked for from the names of the node's children. Errors:
+    /// want of memory.
     pub fn new(alloc: Global, graph: GraphOf<W>) -> Result<OpenedOf<W>, Memory>
         ensures { IfOk result (λ opened. IsOpened graph.entry opened) }
     {
         let _vertices = graph.vertices();
-        let tree = decompose(alloc, &graph)?;
-        if has_no_prime(&tree) {
-            let tree = from_tree(alloc, &tree)?;
+        let parts = graph_outline(alloc, &graph)?;
+        if has_no_prime_part(&parts) {
+            let tree = from_outline(alloc, &parts)?;
             let near = Vec::with_capacity(alloc, 64 * W)?;
             return Ok(OpenedOf::Session(CographSessionOf { graph, tree, near }));
         }
+        let tree = decompose(alloc, &graph)?;
         match any_p4(&graph, &tree) {
             Some(p) => Ok(OpenedOf::NotCograph(p)),
             None => unreachable!(),
@@ -110,6 +114,23 @@ impl<const W: usize> CographSessionOf<W> {
             IsTree (adjacent self.now) self.now.vertices (plain_option tree)) }
     {
         self.tree.to_tree(alloc)
+    }
+
+    /// The outline of that tree, without parts exactly where the graph has no vertices: children in
+    /// ascending order of their least names. No tree is built. Errors: want of memory.
+    pub fn outline(&self, alloc: Global) -> Result<Vec<OutlinePart<Kind>>, Memory>
+        ensures outline { IfOk result (λ parts. (t : Option PlainTree)
+            × IsTree (adjacent self.now) self.now.vertices t
+            × (parts.items ≡ outline_option t)) }
+    {
+        self.tree.outline(alloc)
+    }
+
+    /// The graph.
+    pub fn graph(&self) -> &GraphOf<W>
+        ensures value { result.now ≡ self.now }
+    {
+        &self.graph
     }
 
     /// The cotree of the graph.

@@ -1,11 +1,18 @@
 //! Sessions on classes of graphs over scripts, by the lines that they give.
-ghost use Rattle.std.specs.Prelude.{◌≡◌, ◌<◌};
+ghost use Rattle.std.specs.Prelude.{◌≡◌, ◌*◌, ◌<◌, OnOk};
+ghost use Rattle.md_graph.specs.declared.TheConstants.{WORDS};
+ghost use Rattle.md_script.specs.Histories.{HistoryFits};
+ghost use Rattle.md_script.specs.Items.{HasItemNamesBelow};
+ghost use Rattle.md_report.specs.Classes.{IsAllowedIn};
 
+use crate::graphs::graph_of;
 use md_bar::{Bar, BarKind, Class, ClassLine};
-use md_class::{ClassOpened, ClassOpenedOf, ClassSession, ClassSessionOf};
+use md_class::{ClassAnswer, ClassOpenedOf, ClassSession, ClassSessionOf};
 use md_graph::{Graph, GraphOf, Memory, Steps};
+use md_outline::OutlinePart;
 use md_report::{Line, write_line};
 use md_script::{Edit, History, HistoryOf, Item, Script, read_script};
+use md_tree::Kind;
 use std::alloc::Global;
 use std::marker::Brand;
 use std::process::Abort;
@@ -41,6 +48,53 @@ fn check_line(rt: &impl Abort, alloc: Global, line: &ClassLine, text: &str) -> R
     Ok(())
 }
 
+// The session on a graph of a class.
+fn session_of<const W: usize>(
+    rt: &impl Abort,
+    alloc: Global,
+    class: Class,
+    graph: GraphOf<W>,
+) -> Result<ClassSessionOf<W>, Memory> {
+    match ClassSessionOf::new(alloc, graph, class)? {
+        ClassOpenedOf::Session(session) => Ok(session),
+        ClassOpenedOf::Barred(_) => panic!(rt; "no session"),
+    }
+}
+
+// Applies an item, and compares its line. Conditions: the names in the item are names, and the
+// history is that of the session.
+fn check_item(
+    rt: &impl Abort,
+    alloc: Global,
+    session: &mut ClassSession,
+    history: &mut History,
+    item: &Item,
+    expected: &str,
+) -> Result<(), Memory>
+    requires names { HasItemNamesBelow (64 * WORDS) item.now }
+    requires fits { HistoryFits (64 * WORDS) (IsAllowedIn session.old.class) session.old.graph
+        history.old.items }
+    ensures { OnOk result (HistoryFits (64 * WORDS) (IsAllowedIn session.new.class)
+        session.new.graph history.new.items) }
+{
+    history.reserve(alloc, item.room())?;
+    let line = session.apply_item(alloc, item, history)?;
+    check_line(rt, alloc, &line, expected)
+}
+
+// Sees that the session has the tree with this line.
+fn check_tree(
+    rt: &impl Abort,
+    alloc: Global,
+    session: &ClassSession,
+    expected: &str,
+) -> Result<(), Memory> {
+    let tree = session.tree(alloc)?;
+    let text = write_line(alloc, &Line::Tree(tree))?;
+    assert_eq!(rt; text.as_slice(), expected.as_bytes());
+    Ok(())
+}
+
 // Applies a script to a graph of a class, and compares the line of each item and of the tree at the
 // end.
 fn check(
@@ -52,30 +106,36 @@ fn check(
     lines: &[&str],
     last: &str,
 ) -> Result<(), Memory> {
-    let ClassOpened::Session(mut session) = ClassSession::new(alloc, graph, class)? else {
-        panic!(rt; "no session");
-    };
+    let mut session = session_of(rt, alloc, class, graph)?;
     let mut history = History::new(alloc)?;
     assert_eq!(rt; script.len() as usize, lines.len());
     for (i, expected) in lines.iter().enumerate() {
         assert!(rt; (i as u64) < script.len());
         let item = script.get(i as u64);
-        history.reserve(alloc, item.room())?;
-        let line = session.apply_item(alloc, item, &mut history)?;
-        check_line(rt, alloc, &line, expected)?;
+        check_item(rt, alloc, &mut session, &mut history, item, expected)?;
     }
-    let text = write_line(alloc, &Line::Tree(session.tree(alloc)?))?;
-    assert_eq!(rt; text.as_slice(), last.as_bytes());
+    check_tree(rt, alloc, &session, last)
+}
+
+// The same of the script of a file and the path whose edges are 0-1 and 1-2.
+fn check_on_path(
+    rt: &impl Abort,
+    alloc: Global,
+    class: Class,
+    file: &[u8],
+    lines: &[&str],
+    last: &str,
+) -> Result<(), Fail> {
+    let graph = Graph::from_edges(alloc, 3, &[(0, 1), (1, 2)])?.expect(rt, "edges");
+    let script = read_script(alloc, file)?;
+    check(rt, alloc, class, graph, &script, lines, last)?;
     Ok(())
 }
 
 // Edits that are refused with a bar of each kind, or for a reason.
 #[test]
 fn edits(rt: HostRuntime) -> Result<(), Fail> {
-    let alloc = rt.alloc();
-    let graph = Graph::from_edges(alloc, 3, &[(0, 1), (1, 2)])?.expect(&rt, "edges");
     let file = b"+v 3\n+e 0 3\n+v 4 3\n+v 4 0 2\n+v 4 0 1 2 3\n+e 0 0\n";
-    let script = read_script(alloc, file)?;
     let lines = [
         "ok P(S(P(0,2),1),3)",
         "no p4 2 1 0 3",
@@ -85,29 +145,26 @@ fn edits(rt: HostRuntime) -> Result<(), Fail> {
         "no same",
     ];
     let last = "t S(P(S(P(0,2),1),3),4)";
-    check(&rt, alloc, Class::Threshold, graph, &script, &lines, last)?;
-    Ok(())
+    check_on_path(&rt, rt.alloc(), Class::Threshold, file, &lines, last)
 }
 
 // A group whose second edit makes a cycle that the third would take away, one that is applied, and
-// one without edits; undos.
+// one without edits.
 #[test]
-fn groups_and_undos(rt: HostRuntime) -> Result<(), Fail> {
-    let alloc = rt.alloc();
-    let graph = Graph::from_edges(alloc, 3, &[(0, 1), (1, 2)])?.expect(&rt, "edges");
-    let groups =
-        b"begin\n+v 3\n+v 4 0 2\n-v 4\ncommit\nbegin\n+v 3\n+v 4 3\ncommit\nbegin\ncommit\n";
-    let script = read_script(alloc, groups)?;
+fn groups(rt: HostRuntime) -> Result<(), Fail> {
+    let file = b"begin\n+v 3\n+v 4 0 2\n-v 4\ncommit\nbegin\n+v 3\n+v 4 3\ncommit\nbegin\ncommit\n";
     let lines = [
         "no edit 2 c4 0 1 2 4",
         "ok P(S(P(0,2),1),S(3,4))",
         "ok P(S(P(0,2),1),S(3,4))",
     ];
     let last = "t P(S(P(0,2),1),S(3,4))";
-    check(&rt, alloc, Class::Trivial, graph, &script, &lines, last)?;
-    let graph = Graph::from_edges(alloc, 3, &[(0, 1), (1, 2)])?.expect(&rt, "edges");
-    let undos = b"begin\n+v 3\n+v 4 3\ncommit\n-v 1\nundo\nundo\nundo\n";
-    let script = read_script(alloc, undos)?;
+    check_on_path(&rt, rt.alloc(), Class::Trivial, file, &lines, last)
+}
+
+#[test]
+fn undos(rt: HostRuntime) -> Result<(), Fail> {
+    let file = b"begin\n+v 3\n+v 4 3\ncommit\n-v 1\nundo\nundo\nundo\n";
     let lines = [
         "ok P(S(P(0,2),1),S(3,4))",
         "ok P(0,2,S(3,4))",
@@ -115,30 +172,19 @@ fn groups_and_undos(rt: HostRuntime) -> Result<(), Fail> {
         "ok S(P(0,2),1)",
         "no undo",
     ];
-    check(
-        &rt,
-        alloc,
-        Class::Trivial,
-        graph,
-        &script,
-        &lines,
-        "t S(P(0,2),1)",
-    )?;
-    Ok(())
+    let last = "t S(P(0,2),1)";
+    check_on_path(&rt, rt.alloc(), Class::Trivial, file, &lines, last)
 }
 
-// A session with rows of one word, and an edit that would make a path of two edges.
-fn narrow_session<L: Ledger>(rt: &impl Abort, alloc: Global, blank: Blank) -> Result<(), Memory>
+// An edit that would make a path of two edges.
+fn refused_edge<L: Ledger>(rt: &impl Abort, alloc: Global, blank: Blank) -> Result<(), Memory>
     requires name { blank.name ≡ L.name }
     requires parts { blank.parts ≡ L.parts }
     requires some { 0 < blank.parts }
 {
     let mut steps = Steps::<L>::new(blank);
-    let pair = GraphOf::<1>::from_edges(alloc, 4, &[(0, 1), (2, 3)])?.expect(rt, "edges");
-    let ClassOpenedOf::Session(mut session) = ClassSessionOf::new(alloc, pair, Class::Trivial)?
-    else {
-        panic!(rt; "no session");
-    };
+    let graph = graph_of(rt, alloc, 4, &[(0, 1), (2, 3)])?;
+    let mut session = session_of(rt, alloc, Class::Trivial, graph)?;
     let mut history = HistoryOf::<1>::new(alloc)?;
     history.reserve(alloc, 2)?;
     let item = Item::One(Edit::AddEdge { u: 1, v: 2 });
@@ -146,33 +192,67 @@ fn narrow_session<L: Ledger>(rt: &impl Abort, alloc: Global, blank: Blank) -> Re
     check_line(rt, alloc, &line, "no p4 0 1 2 3")
 }
 
-// Graphs with a bar of each kind, and a session with rows of one word.
+// An edit that is answered by the outline of the tree P(S(P(0,2),1),3).
+fn outlined_edge<L: Ledger>(rt: &impl Abort, alloc: Global, blank: Blank) -> Result<(), Memory>
+    requires name { blank.name ≡ L.name }
+    requires parts { blank.parts ≡ L.parts }
+    requires some { 0 < blank.parts }
+{
+    let mut steps = Steps::<L>::new(blank);
+    let graph = graph_of(rt, alloc, 4, &[(0, 1)])?;
+    let mut session = session_of(rt, alloc, Class::Trivial, graph)?;
+    let mut history = HistoryOf::<1>::new(alloc)?;
+    history.reserve(alloc, 2)?;
+    let item = Item::One(Edit::AddEdge { u: 1, v: 2 });
+    let answer = session.answer_item(alloc, &item, &mut history, &mut steps)?;
+    let ClassAnswer::Applied(parts) = answer else {
+        panic!(rt; "refused");
+    };
+    let expected = [
+        OutlinePart::Node(Kind::Parallel, 2),
+        OutlinePart::Node(Kind::Series, 2),
+        OutlinePart::Node(Kind::Parallel, 2),
+        OutlinePart::Name(0),
+        OutlinePart::Name(2),
+        OutlinePart::Name(1),
+        OutlinePart::Name(3),
+    ];
+    assert_eq!(rt; parts.as_slice(), expected.as_slice());
+    Ok(())
+}
+
+// Sessions with rows of one word.
+#[test]
+fn edges_of_narrow_sessions(rt: HostRuntime) -> Result<(), Fail> {
+    refused_edge::<Brand>(&rt, rt.alloc(), Blank::new(1))?;
+    outlined_edge::<Brand>(&rt, rt.alloc(), Blank::new(1))?;
+    Ok(())
+}
+
+// Sees that the graph of these edges on six names has a bar of this kind, and no session.
+fn check_bar(
+    rt: &impl Abort,
+    alloc: Global,
+    class: Class,
+    edges: &[(u32, u32)],
+    kind: BarKind,
+) -> Result<(), Memory> {
+    let graph = graph_of(rt, alloc, 6, edges)?;
+    let ClassOpenedOf::Barred(bar) = ClassSessionOf::new(alloc, graph, class)? else {
+        panic!(rt; "a session on a graph with a bar");
+    };
+    assert_eq!(rt; bar.kind, kind);
+    Ok(())
+}
+
+// Graphs with a bar of each kind.
 #[test]
 fn first_graphs(rt: HostRuntime) -> Result<(), Fail> {
-    let alloc = rt.alloc();
-    for (class, edges, kind) in [
-        (
-            Class::Trivial,
-            [(0, 1), (1, 2), (2, 3), (4, 5)],
-            BarKind::P4,
-        ),
-        (
-            Class::Trivial,
-            [(0, 2), (2, 1), (1, 3), (0, 3)],
-            BarKind::C4,
-        ),
-        (
-            Class::Threshold,
-            [(0, 1), (2, 3), (2, 4), (3, 4)],
-            BarKind::TwoK2,
-        ),
-    ] {
-        let graph = GraphOf::<1>::from_edges(alloc, 6, &edges)?.expect(&rt, "edges");
-        let ClassOpenedOf::Barred(bar) = ClassSessionOf::new(alloc, graph, class)? else {
-            panic!(&rt; "a session on a graph with a bar");
-        };
-        assert_eq!(&rt; bar.kind, kind);
-    }
-    narrow_session::<Brand>(&rt, alloc, Blank::new(1))?;
+    let path = [(0, 1), (1, 2), (2, 3), (4, 5)];
+    check_bar(&rt, rt.alloc(), Class::Trivial, &path, BarKind::P4)?;
+    let cycle = [(0, 2), (2, 1), (1, 3), (0, 3)];
+    check_bar(&rt, rt.alloc(), Class::Trivial, &cycle, BarKind::C4)?;
+    let edges = [(0, 1), (2, 3), (2, 4), (3, 4)];
+    check_bar(&rt, rt.alloc(), Class::Threshold, &edges, BarKind::TwoK2)?;
     Ok(())
 }

@@ -7,6 +7,8 @@ mod class_sessions;
 #[cfg(test)]
 mod cograph_paths;
 #[cfg(test)]
+mod graphs;
+#[cfg(test)]
 mod scripts;
 #[cfg(test)]
 mod sessions;

@@ -1,6 +1,6 @@
 -- The line of an item in a mode of sessions on cographs, by the line that it has in mode quiet.
-use Rattle.std.proofs.Common.{◌≡◌, ◌⊎◌, ℕ, ◌+◌, true, false, List, [], ◌∷◌, Option, None, Some, Result, Ok, Err, refl, sym, ◌∙◌, ap, subst, inl, inr}
-use Rattle.std.specs.Prelude.{IfOk}
+use Rattle.std.proofs.Common.{◌≡◌, ◌⊎◌, ℕ, ◌+◌, Bool, true, false, List, [], ◌∷◌, Option, None, Some, refl, sym, ◌∙◌, ap, subst, inl, inr}
+use Rattle.std.specs.Prelude.{if◌then◌else◌}
 use Rattle.md_graph.specs.PlainGraph.{PlainGraph}
 use Rattle.md_graph.proofs.SetLemmas.{clash}
 use Rattle.md_bar_tree.specs.declared.Bar.{Bar}
@@ -12,12 +12,11 @@ use Rattle.md_script.specs.Edit.{reason_of, after}
 use Rattle.md_script.specs.Pasts.{all_after}
 use Rattle.md_report.specs.declared.line.SessionMode.{SessionMode}
 use Rattle.md_report.specs.declared.line.SessionMode.TheVariants.{Edit, Cograph, Quiet, Of}
-use Rattle.md_report.specs.declared.line.Line.{Line}
-use Rattle.md_report.specs.Lines.{PlainLine, plain_line}
-use Rattle.md_report.specs.Cographs.{IsCograph, IsPathOf}
+use Rattle.md_report.specs.Lines.{PlainLine}
+use Rattle.md_report.specs.Cographs.{IsCograph, IsP4Bar}
 use Rattle.md_report.specs.ItemLines.{IsAllowed, IsBarred, IsDoneLine, IsLineAt, IsGroupLine, IsUndoLine, AnswersItem}
 use Rattle.md_report.specs.Laws.{KeepsCographs}
-use Rattle.md_report.specs.Sessions.{State, undone, applied_state, is_applied}
+use Rattle.md_report.specs.Sessions.{State, undone, applied_state, is_applied, state_behind}
 use Rattle.md_report.specs.Steps.{state_of, ItemStep}
 use Rattle.md_report.proofs.ItemLines.{IsEditLine, edit_line, state_applied}
 
@@ -25,7 +24,7 @@ use Rattle.md_report.proofs.ItemLines.{IsEditLine, edit_line, state_applied}
 abbrev pub IsToldLine : SessionMode → PlainGraph → PlainLine → PlainLine → Type 0
 IsToldLine mode h line second = ((is_applied line ≡ false) × (second ≡ line)) ⊎ ((is_applied line ≡ true) × (is_applied second ≡ true) × IsDoneLine mode h second)
 
-barred_in : (mode : SessionMode) → KeepsCographs mode → (g : PlainGraph) (bar : Bar) → IsPathOf g bar → IsBarred mode g bar
+barred_in : (mode : SessionMode) → KeepsCographs mode → (g : PlainGraph) (bar : Bar) → IsP4Bar g bar → IsBarred mode g bar
 barred_in Edit kept g bar path = absurd kept
 barred_in Cograph kept g bar path = path
 barred_in Quiet kept g bar path = path
@@ -91,8 +90,14 @@ pub refusal_answers : (mode : SessionMode) → KeepsCographs mode → (line : Pl
     is_applied line ≡ false → AnswersItem mode (state_of g was) item line
 refusal_answers mode kept line limit g items was item h left same step refuses = told_answers mode kept line line limit g items was item h left same step (inl (refuses, refl))
 
--- the line that a call gives for an item that was applied, if it gives one
-pub applied_answers : {E : Type 0} → (mode : SessionMode) → KeepsCographs mode → (line : PlainLine) (limit : ℕ) (g : PlainGraph) (items was : List (List script.Edit)) (item : Item) (h : PlainGraph) (left : List (List script.Edit)) → items ≡ was → ItemStep limit Quiet g items item line h left →
-    is_applied line ≡ true → (r : Result Line E) → IfOk r (λ made. IsDoneLine mode h (plain_line made)) → IfOk r (λ made. is_applied (plain_line made) ≡ true) → IfOk r (λ made. AnswersItem mode (state_of g was) item (plain_line made))
-applied_answers mode kept line limit g items was item h left same step applied (Ok made) done tells = told_answers mode kept line (plain_line made) limit g items was item h left same step (inr (applied, tells, done))
-applied_answers mode kept line limit g items was item h left same step applied (Err fault) done tells = tt
+-- a line that tells that an item was applied has what the mode tells of the graph behind it
+pub done_answers : (mode : SessionMode) → KeepsCographs mode → (line second : PlainLine) (limit : ℕ) (g : PlainGraph) (items was : List (List script.Edit)) (item : Item) (h : PlainGraph) (left : List (List script.Edit)) → items ≡ was → ItemStep limit Quiet g items item line h left →
+    is_applied line ≡ true → IsDoneLine mode h second → is_applied second ≡ true → AnswersItem mode (state_of g was) item second
+done_answers mode kept line second limit g items was item h left same step applied done tells = told_answers mode kept line second limit g items was item h left same step (inr (applied, tells, done))
+
+-- the state behind an item goes by whether its line tells that it was applied
+pub state_told : (line second : PlainLine) (limit : ℕ) (g : PlainGraph) (items was : List (List script.Edit)) (item : Item) (h : PlainGraph) (left : List (List script.Edit)) → items ≡ was → ItemStep limit Quiet g items item line h left → is_applied line ≡ is_applied second →
+    state_of h left ≡ state_behind (state_of g was) item second
+state_told line second limit g items was item h left same step alike =
+    step.state_is ∙ ap (λ (l : List (List script.Edit)). state_behind (state_of g l) item line) same
+    ∙ ap (λ (b : Bool). if b then applied_state (state_of g was) item else state_of g was) alike

@@ -11,3 +11,4 @@ pub mod Status
 pub mod Promise
 pub mod Laws
 pub mod CographModes
+pub mod ItemTexts

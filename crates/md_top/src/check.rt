@@ -19,6 +19,8 @@ use md_report::{GraphMode, SessionMode};
 use std::alloc::Global;
 
 /// Puts the answer of checking a report of a mode over the graphs of a file.
+// Never inlined, so that the stack holds the frame of one kind of checks alone.
+#[inline(never)]
 pub fn graphs_check<O: Sink>(
     alloc: Global,
     mode: GraphMode,
@@ -38,6 +40,8 @@ pub fn graphs_check<O: Sink>(
 }
 
 /// Puts the answer of checking a report of a session on the one graph of a file, over a script.
+// Never inlined, so that the stack holds the frame of one kind of checks alone.
+#[inline(never)]
 pub fn session_check<O: Sink>(
     alloc: Global,
     mode: SessionMode,
@@ -58,6 +62,8 @@ pub fn session_check<O: Sink>(
 }
 
 /// Puts the answer of checking a report of the trees of the directed graphs of a file.
+// Never inlined, so that the stack holds the frame of one kind of checks alone.
+#[inline(never)]
 pub fn digraphs_check<O: Sink>(
     alloc: Global,
     file: &[u8],

@@ -1,8 +1,12 @@
 //! Sessions on a class of graphs, with the tree of each graph.
-ghost use Rattle.std.specs.Prelude.{◌≡◌, ◌≤◌, ◌*◌, IfOk};
+ghost use Rattle.std.specs.Prelude.{◌≡◌, ◌≤◌, ◌*◌, Option, IfOk};
 ghost use Rattle.std.specs.List.{All};
+ghost use Rattle.md_graph.specs.PlainGraph.{adjacent};
+ghost use Rattle.md_tree.specs.StrongTrees.{IsTree};
+ghost use Rattle.md_tree.specs.Trees.{PlainTree};
 ghost use Rattle.md_report.specs.declared.line.SessionMode.{SessionMode};
 ghost use Rattle.md_report.specs.Classes.{IsAllowedIn};
+ghost use Rattle.md_report.specs.Lines as lines;
 ghost use Rattle.md_report.specs.Lines.{PlainLine, fed_line};
 ghost use Rattle.md_report.specs.Places.{at_state, at_items, after_end};
 ghost use Rattle.md_report.specs.Sessions.{first_state};
@@ -11,13 +15,14 @@ ghost use Rattle.md_script.specs.Histories.{HistoryFits};
 ghost use Rattle.md_script.specs.Items.{HasItemNamesBelow};
 ghost use Rattle.md_top.specs.Sinks.{sink_run, PutsLines};
 
-use crate::put::{fed, put_report_line, put_text};
+use crate::put::{applied_text_by_rows, fed, put_report_line, put_text, tree_text_by_rows};
 use crate::stop::PutStop;
 use crate::undos::{forget_unreached, undos_behind};
 use md_bar::{Bar, Class, ClassLine, write_class};
-use md_class::{ClassOpenedOf, ClassSessionOf};
+use md_class::{ClassAnswer, ClassOpenedOf, ClassSessionOf};
 use md_graph::{GraphOf, Memory, Steps};
 use md_io::Sink;
+use md_outline::RowSpace;
 use md_report::Line;
 use md_script::{HistoryOf, Item, Script};
 use std::alloc::Global;
@@ -72,9 +77,19 @@ fn put_opened<const W: usize, O: Sink, L: Ledger>(
         result (sink_run O.Sink out.old out.new) }
     ensures faults_never_fall { O.faults out.old ≤ O.faults out.new }
 {
-    let tree = session.tree(alloc)?;
-    put_report_line(alloc, Line::Tree(tree), out)?;
+    let text = tree_text(alloc, &session)?;
+    put_text(&text, out)?;
     put_items(alloc, session, script, steps, out)
+}
+
+// The text of the line of the tree of the session, with its line feed.
+fn tree_text<const W: usize>(alloc: Global, session: &ClassSessionOf<W>) -> Result<Vec<u8>, Memory>
+    ensures { IfOk result (λ text. (t : Option PlainTree)
+        × IsTree (adjacent session.now.graph) session.now.graph.vertices t
+        × (text.items ≡ fed_line (lines.tree t))) }
+{
+    let parts = session.outline(alloc)?;
+    tree_text_by_rows(alloc, &parts, session.graph(), &mut RowSpace::new(alloc))
 }
 
 // Puts the line of each item, and the last line. Conditions: the graph is of the class, and the
@@ -94,10 +109,11 @@ fn put_items<const W: usize, O: Sink, L: Ledger>(
 {
     let mut history = HistoryOf::new(alloc)?;
     let mut undos = script.undos();
+    let mut space = RowSpace::new(alloc);
     for i in 0..script.len() {
         let item = script.get(i);
         forget_unreached(&mut history, undos);
-        let text = item_text(alloc, &mut session, item, &mut history, steps)?;
+        let text = item_text(alloc, &mut session, item, &mut history, &mut space, steps)?;
         put_text(&text, out)?;
         undos = undos_behind(undos, item);
     }
@@ -111,6 +127,7 @@ fn item_text<const W: usize, L: Ledger>(
     session: &mut ClassSessionOf<W>,
     item: &Item,
     history: &mut HistoryOf<W>,
+    space: &mut RowSpace,
     steps: &mut Steps<L>,
 ) -> Result<Vec<u8>, Memory>
     requires names { HasItemNamesBelow (64 * W) item.now }
@@ -122,6 +139,10 @@ fn item_text<const W: usize, L: Ledger>(
     ensures class { session.new.class ≡ session.old.class }
 {
     history.reserve(alloc, item.room())?;
-    let line = session.apply_counting(alloc, item, history, steps)?;
-    fed(write_class(alloc, &line)?)
+    match session.answer_item(alloc, item, history, steps)? {
+        ClassAnswer::Applied(parts) => {
+            applied_text_by_rows(alloc, &parts, session.graph(), space)
+        }
+        ClassAnswer::Refused(line) => fed(write_class(alloc, &line)?),
+    }
 }

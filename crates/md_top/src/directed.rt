@@ -26,6 +26,8 @@ use std::alloc::Global;
 const SHORT: usize = 256;
 
 /// Puts the report of the trees of the directed graphs of a digraph6 file.
+// Never inlined, so that the stack holds the frame of one kind of reports alone.
+#[inline(never)]
 pub fn directed_report<O: Sink>(alloc: Global, file: &[u8], out: &mut O) -> Result<Verdict, Stop>
     ensures ends { CommandEnds (Request.Report (Subject.Digraphs file.now)) result
         (sink_run O.Sink out.old out.new) }

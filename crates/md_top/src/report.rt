@@ -14,19 +14,41 @@ ghost use Rattle.md_top.specs.declared.request.Request.{Request};
 ghost use Rattle.md_top.specs.Command.{CommandEnds};
 ghost use Rattle.md_top.specs.Sinks.{sink_run, PutsLines};
 
-use crate::put::{fed, fed_text, put_report_line, put_text};
+use crate::put::{fed_text, put_report_line, put_text};
 use crate::stop::{PutStop, Stop, Verdict};
-use md_decompose::graph_outline;
+use md_decompose::fill_outline;
 use md_graph::{GraphOf, Memory};
 use md_input::{Format, GraphBySize, Graphs, Room};
 use md_io::Sink;
 use md_orient::{PermVerdict, Verdict as Orientation, model, orient};
-use md_outline::RowSpace;
-use md_report::{GraphMode, Line, write_tree_by_rows};
+use md_outline::{OutlinePart, RowSpace};
+use md_report::{GraphMode, Line, push_tree_by_rows};
+use md_tree::Kind;
 use std::alloc::Global;
+
+// The text of the line at hand, with its line feed, and what a tree is written from. The memory
+// stays over the graphs of a file.
+#[derive(Drop)]
+struct LineSpace {
+    text: Vec<u8>,
+    parts: Vec<OutlinePart<Kind>>,
+    rows: RowSpace,
+}
+
+impl LineSpace {
+    fn new(alloc: Global) -> LineSpace {
+        LineSpace {
+            text: Vec::new(alloc),
+            parts: Vec::new(alloc),
+            rows: RowSpace::new(alloc),
+        }
+    }
+}
 
 /// Puts the report of a mode over the graphs of a file, which is read under the limit of names of
 /// the mode.
+// Never inlined, so that the stack holds the frame of one kind of reports alone.
+#[inline(never)]
 pub fn report<O: Sink>(
     alloc: Global,
     mode: GraphMode,
@@ -71,7 +93,7 @@ fn put_graph_lines<O: Sink>(
     ensures faults_never_fall { O.faults out.old ≤ O.faults out.new }
 {
     let mut room = Room::new(alloc)?;
-    let mut space = RowSpace::new(alloc);
+    let mut space = LineSpace::new(alloc);
     while graphs.next_into(alloc, &mut room)? {
         put_line(alloc, mode, &room, &mut space, out)?;
         room.clear();
@@ -84,7 +106,7 @@ fn put_line<O: Sink>(
     alloc: Global,
     mode: GraphMode,
     room: &Room,
-    space: &mut RowSpace,
+    space: &mut LineSpace,
     out: &mut O,
 ) -> Result<(), PutStop>
     ensures puts { (graphs : List PlainGraph)
@@ -92,75 +114,92 @@ fn put_line<O: Sink>(
         (sink_run O.Sink out.old out.new) }
     ensures faults_never_fall { O.faults out.old ≤ O.faults out.new }
 {
-    let text = text_of_room(alloc, mode, room, space)?;
-    put_text(&text, out)
+    spell_room(alloc, mode, room, space)?;
+    put_text(&space.text, out)
 }
 
-// The text of the line that reports the graph in the room, with its line feed.
-fn text_of_room(
+// Spells the line that reports the graph in the room, with its line feed.
+fn spell_room(
     alloc: Global,
     mode: GraphMode,
     room: &Room,
-    space: &mut RowSpace,
-) -> Result<Vec<u8>, Memory>
-    ensures { IfOk result (λ text. (line : PlainLine) × Reports mode room.now line
-        × (text.items ≡ fed_line line)) }
+    space: &mut LineSpace,
+) -> Result<(), Memory>
+    ensures { IfOk result (λ _. (line : PlainLine) × Reports mode room.now line
+        × (space.new.text.items ≡ fed_line line)) }
 {
     match room.graph() {
-        GraphBySize::Small(graph) => text_of(alloc, mode, graph, space),
-        GraphBySize::Medium(graph) => text_of(alloc, mode, graph, space),
-        GraphBySize::Broad(graph) => text_of(alloc, mode, graph, space),
-        GraphBySize::Large(graph) => text_of(alloc, mode, graph, space),
+        GraphBySize::Small(graph) => spell(alloc, mode, graph, space),
+        GraphBySize::Medium(graph) => spell(alloc, mode, graph, space),
+        GraphBySize::Broad(graph) => spell(alloc, mode, graph, space),
+        GraphBySize::Large(graph) => spell(alloc, mode, graph, space),
     }
 }
 
-// The text of the line that reports a graph, with its line feed.
-fn text_of<const W: usize>(
+// Spells the line that reports a graph, with its line feed. Never inlined, so that the stack holds
+// the frame of one width alone.
+#[inline(never)]
+fn spell<const W: usize>(
     alloc: Global,
     mode: GraphMode,
     graph: &GraphOf<W>,
-    space: &mut RowSpace,
-) -> Result<Vec<u8>, Memory>
-    ensures { IfOk result (λ text. (line : PlainLine) × Reports mode graph.now line
-        × (text.items ≡ fed_line line)) }
+    space: &mut LineSpace,
+) -> Result<(), Memory>
+    ensures { IfOk result (λ _. (line : PlainLine) × Reports mode graph.now line
+        × (space.new.text.items ≡ fed_line line)) }
 {
     match mode {
-        GraphMode::Tree => tree_text(alloc, graph, space),
-        GraphMode::Compare => orientation_text(alloc, graph),
-        GraphMode::Shortest => orientation_text(alloc, graph),
-        GraphMode::Permute => model_text(alloc, graph),
+        GraphMode::Tree => spell_tree(alloc, graph, space),
+        GraphMode::Compare => spell_orientation(alloc, graph, space),
+        GraphMode::Shortest => spell_orientation(alloc, graph, space),
+        GraphMode::Permute => spell_model(alloc, graph, space),
     }
 }
 
-// The text of the line of the tree of a graph, with its line feed.
-fn tree_text<const W: usize>(
+// Spells the line of the tree of a graph, with its line feed.
+fn spell_tree<const W: usize>(
     alloc: Global,
     graph: &GraphOf<W>,
-    space: &mut RowSpace,
-) -> Result<Vec<u8>, Memory>
-    ensures { IfOk result (λ text. (line : PlainLine) × HasTreeLine lines.tree graph.now line
-        × (text.items ≡ fed_line line)) }
+    space: &mut LineSpace,
+) -> Result<(), Memory>
+    ensures { IfOk result (λ _. (line : PlainLine) × HasTreeLine lines.tree graph.now line
+        × (space.new.text.items ≡ fed_line line)) }
 {
-    let parts = graph_outline(alloc, graph)?;
-    fed(write_tree_by_rows(alloc, &parts, graph, space)?)
+    fill_outline(alloc, graph, &mut space.parts)?;
+    space.text.clear();
+    push_tree_by_rows(&mut space.text, &space.parts, graph, &mut space.rows)?;
+    space.text.push(b'\n')?;
+    Ok(())
 }
 
-// The same of its least-edge orientation, or of a shortest forcing chain of it.
-fn orientation_text<const W: usize>(alloc: Global, graph: &GraphOf<W>) -> Result<Vec<u8>, Memory>
-    ensures { IfOk result (λ text. (line : PlainLine) × IsShortestLine (adjacent graph.now) line
-        × (text.items ≡ fed_line line)) }
+// Spells the line of the least-edge orientation of a graph, or of a shortest forcing chain of it,
+// with its line feed.
+fn spell_orientation<const W: usize>(
+    alloc: Global,
+    graph: &GraphOf<W>,
+    space: &mut LineSpace,
+) -> Result<(), Memory>
+    ensures { IfOk result (λ _. (line : PlainLine) × IsShortestLine (adjacent graph.now) line
+        × (space.new.text.items ≡ fed_line line)) }
 {
     let line = orientation_line(alloc, graph)?;
-    fed_text(alloc, &line)
+    space.text = fed_text(alloc, &line)?;
+    Ok(())
 }
 
-// The same of two orders that realise it, or of a forcing chain of it or of its complement.
-fn model_text<const W: usize>(alloc: Global, graph: &GraphOf<W>) -> Result<Vec<u8>, Memory>
-    ensures { IfOk result (λ text. (line : PlainLine) × IsModelLine graph.now line
-        × (text.items ≡ fed_line line)) }
+// Spells the line of two orders that realise a graph, or of a forcing chain of it or of its
+// complement, with its line feed.
+fn spell_model<const W: usize>(
+    alloc: Global,
+    graph: &GraphOf<W>,
+    space: &mut LineSpace,
+) -> Result<(), Memory>
+    ensures { IfOk result (λ _. (line : PlainLine) × IsModelLine graph.now line
+        × (space.new.text.items ≡ fed_line line)) }
 {
     let line = model_line(alloc, graph)?;
-    fed_text(alloc, &line)
+    space.text = fed_text(alloc, &line)?;
+    Ok(())
 }
 
 // The line of the least-edge orientation of a graph, or of a shortest forcing chain of it.

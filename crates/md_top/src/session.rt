@@ -37,6 +37,8 @@ use std::marker::Brand;
 use std::sync::ledger::{Blank, Ledger};
 
 /// Puts the report of a session on the one graph of a graph file over a script.
+// Never inlined, so that the stack holds the frame of one kind of reports alone.
+#[inline(never)]
 pub fn session_report<O: Sink>(
     alloc: Global,
     mode: SessionMode,

@@ -167,7 +167,9 @@ fn end<F: Files, O: Sink>(
 }
 
 // Runs the session over the edits that a number of names gives; no file is asked for.
-// Condition: the number is at most `BIGGEST`.
+// Condition: the number is at most `BIGGEST`. Never inlined, so that the stack holds the frame of
+// one command alone.
+#[inline(never)]
 fn end_big<F: Files, O: Sink>(
     alloc: Global,
     size: u32,
@@ -183,7 +185,8 @@ fn end_big<F: Files, O: Sink>(
     big(alloc, size, out)
 }
 
-// Loads the graph file, and puts the text of each graph in a format.
+// Loads the graph file, and puts the text of each graph in a format. Never inlined, as above.
+#[inline(never)]
 fn end_convert<F: Files, O: Sink>(
     alloc: Global,
     to: Format,
@@ -201,7 +204,8 @@ fn end_convert<F: Files, O: Sink>(
     convert(alloc, from, to, &file, out)
 }
 
-// Loads the files of a subject, and puts the report over it.
+// Loads the files of a subject, and puts the report over it. Never inlined, as above.
+#[inline(never)]
 fn end_report<F: Files, O: Sink>(
     alloc: Global,
     subject: Subject<&str>,
@@ -217,7 +221,8 @@ fn end_report<F: Files, O: Sink>(
     report_of_subject(alloc, &loaded, out)
 }
 
-// Loads the files of a subject and the report, and checks the report.
+// Loads the files of a subject and the report, and checks the report. Never inlined, as above.
+#[inline(never)]
 fn end_check<F: Files, O: Sink>(
     alloc: Global,
     subject: Subject<&str>,

@@ -49,7 +49,7 @@ module _ {K P : Type 0} (N : K → PlainTreesOf K P → List P → Type 0) where
   each_parts [] ys a = (tt, a)
   each_parts (x ∷ xs) ys a = let rest = each_parts xs ys a.1 in ((a.0, rest.0), rest.1)
 
-length_listed : {K P : Type 0} (ts : PlainTreesOf K P) → length (listed ts) ≡ count ts
+pub length_listed : {K P : Type 0} (ts : PlainTreesOf K P) → length (listed ts) ≡ count ts
 length_listed no_tree = refl
 length_listed (one_more t ts) = ap (λ n. suc n) (length_listed ts)
 

@@ -6,10 +6,11 @@ ghost use Rattle.md_tree.specs.NoPrimes.{HasNoPrime};
 ghost use Rattle.md_cotree.specs.Cotrees.{Denotes};
 
 use crate::outlines::outline_by_tree;
-use md_cotree::{Cotree, from_tree};
-use md_graph::{Graph, NAMES};
+use md_cotree::{Cotree, from_outline, from_tree};
+use md_graph::{Graph, Memory, NAMES};
+use md_outline::{OutlinePart, has_no_prime_part, tree_outline};
 use md_text::push_number;
-use md_tree::{Tree, graph_of, is_cotree, read_tree, text};
+use md_tree::{Kind, Tree, graph_of, is_cotree, read_tree, text};
 use std::alloc::{AllocError, Global};
 use std::process::Abort;
 use std::test::Fail;
@@ -35,6 +36,27 @@ fn there_and_back(rt: &impl Abort, alloc: Global, bytes: &[u8]) -> Result<(), Fa
     let outline = cotree.outline(alloc)?;
     let expected = outline_by_tree(alloc, &back)?;
     assert_eq!(rt; outline.as_slice(), expected.as_slice());
+    Ok(())
+}
+
+// Sees that a tree has this outline, and so has the cotree that is made from it.
+fn outline_and_back(
+    rt: &impl Abort,
+    alloc: Global,
+    tree: &Option<Tree>,
+    parts: &[OutlinePart<Kind>],
+) -> Result<(), Memory>
+    requires well_formed { IsWellFormed (plain_option tree.now) }
+    requires no_prime { HasNoPrime (plain_option tree.now) }
+{
+    let Some(root) = tree else {
+        panic!(rt; "no tree");
+    };
+    let made = tree_outline(alloc, root)?;
+    assert_eq!(rt; made.as_slice(), parts);
+    let cotree = from_outline(alloc, &made)?;
+    let back = cotree.outline(alloc)?;
+    assert_eq!(rt; back.as_slice(), parts);
     Ok(())
 }
 
@@ -80,6 +102,27 @@ fn trees_and_back(rt: HostRuntime) -> Result<(), Fail> {
     }
     there_and_back(&rt, alloc, &deep(alloc, 999)?)?;
     there_and_back(&rt, alloc, &deep(alloc, 4_095)?)?;
+    Ok(())
+}
+
+#[test]
+fn outlines_and_back(rt: HostRuntime) -> Result<(), Fail> {
+    let alloc = rt.alloc();
+    let tree = read(&rt, alloc, b"S(P(0,4),1,P(2,3))");
+    let mut parts = [
+        OutlinePart::Node(Kind::Series, 3),
+        OutlinePart::Node(Kind::Parallel, 2),
+        OutlinePart::Name(0),
+        OutlinePart::Name(4),
+        OutlinePart::Name(1),
+        OutlinePart::Node(Kind::Parallel, 2),
+        OutlinePart::Name(2),
+        OutlinePart::Name(3),
+    ];
+    outline_and_back(&rt, alloc, &tree, &parts)?;
+    assert!(rt; has_no_prime_part(&parts));
+    parts[1] = OutlinePart::Node(Kind::Prime, 4);
+    assert!(rt; !has_no_prime_part(&parts));
     Ok(())
 }
 

@@ -30,7 +30,6 @@ use Rattle.md_cotree.proofs.Leaves.{no_place}
 use Rattle.md_cotree.proofs.Kept.{one_graph}
 use Rattle.md_cotree.proofs.NoPaths.{cotree_no_path}
 use Rattle.md_cotree.proofs.Room.{room}
-use Rattle.md_cotree.proofs.Rows.{leaves-joined}
 use Rattle.md_cotree.proofs.TreeGraphs.{some_graph}
 use Rattle.md_cotree_edit.specs.Counts.{name_in}
 use Rattle.md_cotree_edit.specs.Contexts.{AreTreesKept}
@@ -228,8 +227,8 @@ module _ (c : Cotree) (x : ℕ) (ns : List ℕ) (t : PlaceTree) (can : CanGrow c
       names = λ v p.
           let e = found.2.tips p v in
           let f = taken.inserted.tips p v in
-          let named : (leaves_in p v t + 0) + (cond ((leaf == p) && (x == v)) 1 0 + 0) ≡ holds_once (place_at d v) p =
-          sym (leaves-joined p v (then t no_more) (then (tip leaf x) no_more)) ∙ leaf_named c.places.items d.places.items x leaf placed absent (then t no_more) can.kept.names v p in
+          let named : cond ((leaf == p) && (x == v)) 1 0 + (leaves_in p v t + 0) ≡ holds_once (place_at d v) p =
+          leaf_named c.places.items d.places.items x leaf placed absent (then t no_more) can.kept.names v p in
           omega arith;
       leaves = let e = found.2.leaves in let f = taken.inserted.leaves in let g = can.kept.leaves in omega arith;
       alternates = found.2.alternates (taken.alternates, tt);

@@ -1,5 +1,5 @@
 //! Checks of reports.
-use super::{run, shown, words_of};
+use super::{shown, status_of, words_of};
 use md_io::{MemFiles, MemSink};
 use std::alloc::Global;
 use std::process::Abort;
@@ -20,8 +20,23 @@ pub(super) fn check_over(
     files.add("r", report)?;
     let mut out = MemSink::new(alloc, Vec::new(alloc), 0);
     let mut err = MemSink::new(alloc, Vec::new(alloc), 0);
-    let status = run(alloc, &words, &mut files, &mut out, &mut err);
+    let status = status_of(alloc, &words, &mut files, &mut out, &mut err);
     shown(alloc, status, &out, &err)
+}
+
+// Sees that a check of the report `r` over the files `g` and `s` ends as it is to be.
+pub(super) fn expect_check(
+    rt: &impl Abort,
+    alloc: Global,
+    line: &str,
+    file: &[u8],
+    script: &[u8],
+    report: &[u8],
+    want: &str,
+) -> Result<(), Fail> {
+    let shown = check_over(alloc, line, file, script, report)?;
+    assert_eq!(rt; shown.as_str(), want, "{line}");
+    Ok(())
 }
 
 // Sees that each check of the report `r` over the file `g` ends as it is to be.
@@ -31,8 +46,7 @@ pub(super) fn expect_checks(
     table: &[(&str, &[u8], &[u8], &str)],
 ) -> Result<(), Fail> {
     for (line, file, report, want) in table {
-        let shown = check_over(alloc, line, file, b"*", report)?;
-        assert_eq!(rt; shown.as_str(), *want, "{line}");
+        expect_check(rt, alloc, line, *file, b"*", *report, want)?;
     }
     Ok(())
 }
@@ -328,9 +342,8 @@ fn checks_of_sessions(rt: HostRuntime) -> Result<(), Fail> {
         ("check tree g6 g s r", b"@\n", b"", b"", "2||mdt: usage\n"),
         ("checks edit g6 g s r", b"@\n", b"", b"", "2||mdt: usage\n"),
     ];
-    for (line, file, script, report, want) in TABLE {
-        let shown = check_over(alloc, line, file, script, report)?;
-        assert_eq!(rt; shown.as_str(), want, "{line}");
+    for (line, file, script, report, want) in &TABLE {
+        expect_check(&rt, alloc, line, *file, *script, *report, want)?;
     }
     Ok(())
 }

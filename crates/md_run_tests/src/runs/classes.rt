@@ -1,5 +1,5 @@
 //! Sessions on trivially perfect graphs and on threshold graphs, and checks of their reports.
-use super::checks::check_over;
+use super::checks::expect_check;
 use super::*;
 
 // Sees that a session gives a report, and that its check accepts the report.
@@ -12,13 +12,19 @@ fn expect_session(
     report: &str,
 ) -> Result<(), Fail> {
     let line = format!(in alloc; "{mode} g6 g s")?;
-    let shown = run_over(alloc, line.as_str(), file, script, 0, 0, 0)?;
     let want = format!(in alloc; "0|{report}|")?;
-    assert_eq!(rt; shown.as_str(), want.as_str(), "{report}");
+    expect_run(rt, alloc, line.as_str(), file, script, want.as_str())?;
     let line = format!(in alloc; "check {mode} g6 g s r")?;
-    let shown = check_over(alloc, line.as_str(), file, script, report.as_bytes())?;
-    assert_eq!(rt; shown.as_str(), "0|accepted\n|", "{report}");
-    Ok(())
+    let accepted = "0|accepted\n|";
+    expect_check(
+        rt,
+        alloc,
+        line.as_str(),
+        file,
+        script,
+        report.as_bytes(),
+        accepted,
+    )
 }
 
 #[test]
@@ -75,8 +81,8 @@ fn sessions_on_classes(rt: HostRuntime) -> Result<(), Fail> {
             "mdt trivial\nt empty\nok 0\nno taken 0\nok empty\nend\n",
         ),
     ];
-    for (mode, file, script, report) in TABLE {
-        expect_session(&rt, alloc, mode, file, script, report)?;
+    for (mode, file, script, report) in &TABLE {
+        expect_session(&rt, alloc, mode, *file, *script, report)?;
     }
     Ok(())
 }
@@ -158,9 +164,8 @@ fn checks_of_classes(rt: HostRuntime) -> Result<(), Fail> {
             "1|rejected line 3\n|",
         ),
     ];
-    for (line, file, script, report, want) in TABLE {
-        let shown = check_over(alloc, line, file, script, report)?;
-        assert_eq!(rt; shown.as_str(), want, "{line}");
+    for (line, file, script, report, want) in &TABLE {
+        expect_check(&rt, alloc, line, *file, *script, *report, want)?;
     }
     Ok(())
 }

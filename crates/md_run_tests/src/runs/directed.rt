@@ -268,21 +268,26 @@ fn push_size(line: &mut Vec<u8>, n: u32) -> Result<(), Fail> {
     Ok(())
 }
 
+// The byte of six bits of a digraph6 line, where each vertex has arcs to all later ones.
+fn group_of(n: u32, at: u32) -> u8 {
+    let bits = n.saturating_mul(n);
+    let mut group = 63u8;
+    for bit in 0..6 {
+        let place = at.wrapping_mul(6).wrapping_add(bit);
+        if n > 0 && place < bits && place / n < place % n {
+            group = group.wrapping_add(32u8 >> (place % 6));
+        }
+    }
+    group
+}
+
 // Appends the digraph6 line of the directed graph on so many vertices, 63 or more, in which each
 // vertex has arcs to all later ones.
 fn push_order(rt: &impl Abort, line: &mut Vec<u8>, n: u32) -> Result<(), Fail> {
     assert!(rt; 62 < n);
     push_size(line, n)?;
-    let bits = n.saturating_mul(n);
-    for at in 0..bits.div_ceil(6) {
-        let mut group = 63u8;
-        for bit in 0..6 {
-            let place = at.wrapping_mul(6).wrapping_add(bit);
-            if place < bits && place / n < place % n {
-                group = group.wrapping_add(32u8 >> (place % 6));
-            }
-        }
-        line.push(group)?;
+    for at in 0..n.saturating_mul(n).div_ceil(6) {
+        line.push(group_of(n, at))?;
     }
     line.push(b'\n')?;
     Ok(())

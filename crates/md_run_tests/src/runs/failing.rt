@@ -1,10 +1,11 @@
 //! Runs whose loads or puts fail, or whose output finds no memory.
 mod full_sink;
 
-use super::{run, run_over, shown, words_of};
+use super::{expect_fault, expect_run, run_over, shown, status_of, words_of};
 use full_sink::FullSink;
 use md_io::{MemFiles, MemSink};
 use std::alloc::Global;
+use std::process::Abort;
 use std::test::Fail;
 
 // Of two edits the first would make an induced P4 and is refused, the second is applied.
@@ -21,16 +22,22 @@ const COGRAPH: (&str, &[u8], &[u8], &[&str]) = (
     ],
 );
 
+// Appends the first bytes of a line.
+fn push_part(text: &mut String, line: &str, part: usize) -> Result<(), Fail> {
+    for byte in line.as_bytes().iter().take(part) {
+        text.push(char::from(*byte))?;
+    }
+    Ok(())
+}
+
 // The lines in front of a place, and of the line at it the first bytes.
 fn front(alloc: Global, lines: &[&str], place: usize, part: usize) -> Result<String, Fail> {
     let mut text = String::new(alloc);
     for line in lines.iter().take(place) {
         text.push_str(line)?;
     }
-    for line in lines.iter().skip(place).take(1) {
-        for byte in line.as_bytes().iter().take(part) {
-            text.push(char::from(*byte))?;
-        }
+    if place < lines.len() {
+        push_part(&mut text, lines[place], part)?;
     }
     Ok(text)
 }
@@ -43,6 +50,39 @@ fn failed(alloc: Global, lines: &[&str], place: usize, part: usize) -> Result<St
         return Ok(format!(in alloc; "5|{text}|mdt: write fault\n")?);
     }
     Ok(format!(in alloc; "0|{text}|")?)
+}
+
+// Sees that a run ends as it is to be whose put at a place takes a part of its line and fails.
+fn expect_cut(
+    rt: &impl Abort,
+    alloc: Global,
+    line: &str,
+    files: (&[u8], &[u8]),
+    lines: &[&str],
+    place: u64,
+    part: u64,
+) -> Result<(), Fail> {
+    let (file, script) = files;
+    let want = failed(alloc, lines, place as usize, part as usize)?;
+    let shown = run_over(alloc, line, file, script, 0, place.saturating_add(1), part)?;
+    assert_eq!(rt; shown.as_str(), want.as_str(), "{line}");
+    Ok(())
+}
+
+// The same at each place, and of several parts.
+fn expect_cuts(
+    rt: &impl Abort,
+    alloc: Global,
+    line: &str,
+    files: (&[u8], &[u8]),
+    lines: &[&str],
+) -> Result<(), Fail> {
+    for place in 0..8 {
+        for part in [0, 3, 100] {
+            expect_cut(rt, alloc, line, files, lines, place, part)?;
+        }
+    }
+    Ok(())
 }
 
 #[test]
@@ -106,14 +146,8 @@ fn puts_that_fail(rt: HostRuntime) -> Result<(), Fail> {
             ],
         ),
     ];
-    for (line, file, script, lines) in TABLE {
-        for place in 0..8 {
-            for part in [0, 3, 100] {
-                let want = failed(alloc, lines, place, part)?;
-                let shown = run_over(alloc, line, file, script, 0, place as u64 + 1, part as u64)?;
-                assert_eq!(rt; shown.as_str(), want.as_str(), "{line}");
-            }
-        }
+    for (line, file, script, lines) in &TABLE {
+        expect_cuts(&rt, alloc, line, (*file, *script), *lines)?;
     }
     Ok(())
 }
@@ -145,11 +179,53 @@ fn answers_of_one_put(rt: HostRuntime) -> Result<(), Fail> {
             "0|inserted 5 refused 1 nodes 9 left 2 nodes 3\n|",
         ),
     ];
-    for (line, file, script, cut, whole) in TABLE {
-        let shown = run_over(alloc, line, file, script, 0, 1, 3)?;
-        assert_eq!(rt; shown.as_str(), cut, "{line}");
-        let shown = run_over(alloc, line, file, script, 0, 2, 3)?;
-        assert_eq!(rt; shown.as_str(), whole, "{line}");
+    for (line, file, script, cut, whole) in &TABLE {
+        expect_fault(&rt, alloc, line, *file, *script, (0, 1, 3), cut)?;
+        expect_fault(&rt, alloc, line, *file, *script, (0, 2, 3), whole)?;
+    }
+    Ok(())
+}
+
+// Sees that a run over a sink with room for so many pieces puts these, and says why it ends.
+fn expect_room(
+    rt: &impl Abort,
+    alloc: Global,
+    line: &str,
+    files: (&[u8], &[u8]),
+    lines: &[&str],
+    room: usize,
+) -> Result<(), Fail> {
+    let words = words_of(alloc, line)?;
+    let mut kept = MemFiles::new(alloc, Vec::new(alloc));
+    kept.add("g", files.0)?;
+    kept.add("s", files.1)?;
+    let mut out = FullSink::new(alloc, room as u64);
+    let mut err = MemSink::new(alloc, Vec::new(alloc), 0);
+    let status = status_of(alloc, &words, &mut kept, &mut out, &mut err).number();
+    let want = front(alloc, lines, room, 0)?;
+    assert!(rt; out.bytes() == want.as_bytes(), "{line}");
+    let (number, told) = if room < lines.len() {
+        (6, "mdt: memory\n")
+    } else {
+        (0, "")
+    };
+    assert!(rt;
+        status == number && err.bytes() == told.as_bytes(),
+        "{line}"
+    );
+    Ok(())
+}
+
+// The same of several rooms.
+fn expect_rooms(
+    rt: &impl Abort,
+    alloc: Global,
+    line: &str,
+    files: (&[u8], &[u8]),
+    lines: &[&str],
+) -> Result<(), Fail> {
+    for room in 0..7 {
+        expect_room(rt, alloc, line, files, lines, room)?;
     }
     Ok(())
 }
@@ -174,27 +250,8 @@ fn puts_without_memory(rt: HostRuntime) -> Result<(), Fail> {
             &["p edge 1 0\n", "p edge 0 0\n"],
         ),
     ];
-    for (line, file, script, lines) in TABLE {
-        for room in 0..7 {
-            let words = words_of(alloc, line)?;
-            let mut files = MemFiles::new(alloc, Vec::new(alloc));
-            files.add("g", file)?;
-            files.add("s", script)?;
-            let mut out = FullSink::new(alloc, room as u64);
-            let mut err = MemSink::new(alloc, Vec::new(alloc), 0);
-            let status = run(alloc, &words, &mut files, &mut out, &mut err).number();
-            let want = front(alloc, lines, room, 0)?;
-            assert!(rt; out.bytes() == want.as_bytes(), "{line}");
-            let (number, told) = if room < lines.len() {
-                (6, "mdt: memory\n")
-            } else {
-                (0, "")
-            };
-            assert!(rt;
-                status == number && err.bytes() == told.as_bytes(),
-                "{line}"
-            );
-        }
+    for (line, file, script, lines) in &TABLE {
+        expect_rooms(&rt, alloc, line, (*file, *script), *lines)?;
     }
     Ok(())
 }
@@ -306,10 +363,29 @@ fn first_causes(rt: HostRuntime) -> Result<(), Fail> {
             "3||mdt: graph Loop line 1\n",
         ),
     ];
-    for (line, file, script, load, put, want) in TABLE {
-        let shown = run_over(alloc, line, file, script, load, put, 0)?;
-        assert_eq!(rt; shown.as_str(), want, "{line}");
+    for (line, file, script, load, put, want) in &TABLE {
+        expect_fault(&rt, alloc, line, *file, *script, (*load, *put, 0), want)?;
     }
+    Ok(())
+}
+
+// Sees that a run ends as it is to be whose first put on `err` fails after a part of it.
+fn expect_refused_line(
+    rt: &impl Abort,
+    alloc: Global,
+    line: &str,
+    file: &[u8],
+    part: u64,
+    want: &str,
+) -> Result<(), Fail> {
+    let words = words_of(alloc, line)?;
+    let mut files = MemFiles::new(alloc, Vec::new(alloc));
+    files.add("g", file)?;
+    let mut out = MemSink::new(alloc, Vec::new(alloc), 0);
+    let mut err = MemSink::new(alloc, vec![in alloc; 1]?, part);
+    let status = status_of(alloc, &words, &mut files, &mut out, &mut err);
+    let shown = shown(alloc, status, &out, &err)?;
+    assert_eq!(rt; shown.as_str(), want, "{line}");
     Ok(())
 }
 
@@ -326,17 +402,10 @@ fn refused_lines_on_err(rt: HostRuntime) -> Result<(), Fail> {
         ("tree g6 h", b"DQc\n", "4||mdt: r"),
         ("trees g6 g", b"DQc\n", "2||mdt: u"),
     ];
-    for (line, file, want) in TABLE {
-        let words = words_of(alloc, line)?;
-        let mut files = MemFiles::new(alloc, Vec::new(alloc));
-        files.add("g", file)?;
-        let mut out = MemSink::new(alloc, Vec::new(alloc), 0);
-        let mut err = MemSink::new(alloc, vec![in alloc; 1]?, 6);
-        let status = run(alloc, &words, &mut files, &mut out, &mut err);
-        let shown = shown(alloc, status, &out, &err)?;
-        assert_eq!(rt; shown.as_str(), want, "{line}");
+    for (line, file, want) in &TABLE {
+        expect_refused_line(&rt, alloc, line, *file, 6, want)?;
     }
-    Ok(())
+    expect_refused_line(&rt, alloc, "tree png x", b"", 4, "2||mdt:")
 }
 
 #[test]
@@ -346,7 +415,5 @@ fn graph_of_the_most_vertices(rt: HostRuntime) -> Result<(), Fail> {
     file.extend_from_slice(b"~C??")?;
     file.resize(22_368_260, b'?')?;
     file.push(b'\n')?;
-    let shown = run_over(alloc, "edges g6 g", &file, b"", 0, 0, 0)?;
-    assert_eq!(rt; shown.as_str(), "0|p edge 16384 0\n|");
-    Ok(())
+    expect_run(&rt, alloc, "edges g6 g", &file, b"", "0|p edge 16384 0\n|")
 }

@@ -1,4 +1,5 @@
 //! Runs over graphs of the sizes at which the rows of a graph take more words.
+use super::checks::expect_check;
 use super::*;
 
 // The text of a number of items, each behind a mark but the first.
@@ -11,19 +12,29 @@ pub(super) fn names(alloc: Global, from: u32, below: u32) -> Result<String, Fail
     Ok(text)
 }
 
-// The line of the graph6 file of the graph on so many vertices of which the first and the last are
-// adjacent, and no others.
-fn line_of(alloc: Global, n: u32) -> Result<Vec<u8>, Fail> {
-    let mut line = Vec::new(alloc);
+// Appends the size of a graph6 line.
+fn push_size(line: &mut Vec<u8>, n: u32) -> Result<(), Fail> {
     if n > 62 {
         line.push(126)?;
         line.push((n / 4096 % 64 + 63) as u8)?;
         line.push((n / 64 % 64 + 63) as u8)?;
     }
     line.push((n % 64 + 63) as u8)?;
-    let before = u64::from(n.saturating_sub(1)).saturating_mul(u64::from(n.saturating_sub(2))) / 2;
-    let pairs = u64::from(n).saturating_mul(u64::from(n.saturating_sub(1))) / 2;
-    let groups = vec![in alloc; b'?'; pairs.div_ceil(6) as usize]?;
+    Ok(())
+}
+
+// How many pairs there are of so many vertices.
+fn pairs_of(n: u32) -> u64 {
+    u64::from(n).saturating_mul(u64::from(n.saturating_sub(1))) / 2
+}
+
+// The line of the graph6 file of the graph on so many vertices of which the first and the last are
+// adjacent, and no others.
+fn line_of(alloc: Global, n: u32) -> Result<Vec<u8>, Fail> {
+    let mut line = Vec::new(alloc);
+    push_size(&mut line, n)?;
+    let before = pairs_of(n.saturating_sub(1));
+    let groups = vec![in alloc; b'?'; pairs_of(n).div_ceil(6) as usize]?;
     let at = line.len().saturating_add((before / 6) as usize);
     line.extend_from_slice(&groups)?;
     if at < line.len() {
@@ -83,7 +94,7 @@ pub(super) fn output_of(
     files.add("s", script)?;
     let mut out = MemSink::new(alloc, Vec::new(alloc), 0);
     let mut err = MemSink::new(alloc, Vec::new(alloc), 0);
-    let status = run(alloc, &words, &mut files, &mut out, &mut err);
+    let status = status_of(alloc, &words, &mut files, &mut out, &mut err);
     let mut bytes = Vec::new(alloc);
     if status.number() == 0 {
         bytes.extend_from_slice(out.bytes())?;
@@ -124,106 +135,148 @@ fn runs_over_graphs_of_all_sizes(rt: HostRuntime) -> Result<(), Fail> {
     Ok(())
 }
 
+// Sees that the report of models of those graphs of these sizes is accepted.
+fn expect_models(rt: &impl Abort, alloc: Global, sizes: &[u32]) -> Result<(), Fail> {
+    let mut file = Vec::new(alloc);
+    for n in sizes {
+        file.extend_from_slice(&line_of(alloc, *n)?)?;
+    }
+    let report = output_of(alloc, "permute g6 g", &file, b"")?;
+    assert!(rt; report.len() > 1_000);
+    let put = output_of(alloc, "check permute g6 g s", &file, &report)?;
+    assert_eq!(rt; put.as_slice(), b"accepted\n".as_slice());
+    Ok(())
+}
+
 #[test]
 fn models_of_graphs_of_all_sizes_are_accepted(rt: HostRuntime) -> Result<(), Fail> {
-    let alloc = rt.alloc();
-    for sizes in [[62, 64, 65], [65, 64, 62]] {
-        let mut file = Vec::new(alloc);
-        for n in sizes {
-            file.extend_from_slice(&line_of(alloc, n)?)?;
-        }
-        let report = output_of(alloc, "permute g6 g", &file, b"")?;
-        assert!(&rt; report.len() > 1_000);
-        let put = output_of(alloc, "check permute g6 g s", &file, &report)?;
-        assert_eq!(&rt; put.as_slice(), b"accepted\n".as_slice());
-    }
+    expect_models(&rt, rt.alloc(), &[62, 64, 65])?;
+    expect_models(&rt, rt.alloc(), &[65, 64, 62])
+}
+
+// Sees what a command puts for that graph of a size as a DIMACS file.
+fn expect_edges(rt: &impl Abort, alloc: Global, command: &str, n: u32) -> Result<(), Fail> {
+    let file = put_for(alloc, "edges", 1, n)?;
+    let want = whole_for(alloc, command, 1, &[n])?;
+    let line = format!(in alloc; "{command} dimacs g")?;
+    let put = output_of(alloc, line.as_str(), &file, b"")?;
+    assert!(rt;
+        put.as_slice() == want.as_slice(),
+        "{command}, {n} vertices"
+    );
     Ok(())
 }
 
 #[test]
 fn runs_over_edge_files_of_all_sizes(rt: HostRuntime) -> Result<(), Fail> {
-    let alloc = rt.alloc();
     for n in [62, 63, 64, 1_023, 1_024, 4_095] {
-        let file = put_for(alloc, "edges", 1, n)?;
         for command in ["edges", "tree", "compare"] {
-            let want = whole_for(alloc, command, 1, &[n])?;
-            let line = format!(in alloc; "{command} dimacs g")?;
-            let put = output_of(alloc, line.as_str(), &file, b"")?;
-            assert!(&rt;
-                put.as_slice() == want.as_slice(),
-                "{command}, {n} vertices"
-            );
+            expect_edges(&rt, rt.alloc(), command, n)?;
         }
     }
     Ok(())
 }
 
-// Sees what sessions put for that graph of a size, where its one edge goes, and a vertex with this
-// name comes and goes again.
-fn expect_sessions(rt: &impl Abort, alloc: Global, n: u32, name: u32) -> Result<(), Fail> {
-    let file = line_of(alloc, n)?;
-    let tree = tree_of(alloc, 0, n)?;
-    let others = names(alloc, 1, n)?;
+// Sees what a session of a mode puts for that graph of a size, where its one edge goes, and a vertex
+// with this name comes and goes again.
+fn expect_session(
+    rt: &impl Abort,
+    alloc: Global,
+    mode: &str,
+    n: u32,
+    name: u32,
+) -> Result<(), Fail> {
     let last = n.saturating_sub(1);
     let script = format!(in alloc; "-e 0 {last}\n+v {name}\n-v {name}\n")?;
+    let line = format!(in alloc; "{mode} g6 g s")?;
+    let file = line_of(alloc, n)?;
+    let put = output_of(alloc, line.as_str(), &file, script.as_bytes())?;
+    let want = session_of(alloc, mode, n, name)?;
+    assert!(rt; put.as_slice() == want.as_bytes(), "{mode}, {n} vertices");
+    Ok(())
+}
+
+// The report of that session.
+fn session_of(alloc: Global, mode: &str, n: u32, name: u32) -> Result<String, Fail> {
+    let tree = tree_of(alloc, 0, n)?;
+    let others = names(alloc, 1, n)?;
     let less = format!(in alloc; "ok P(0{others})")?;
     let more = format!(in alloc; "ok P(0{others},{name})")?;
-    for mode in ["edit", "cograph"] {
-        let line = format!(in alloc; "{mode} g6 g s")?;
-        let head = format!(in alloc; "mdt {mode}\nt {tree}\n{less}\n")?;
-        let want = format!(in alloc; "{head}{more}\n{less}\nend\n")?;
-        let put = output_of(alloc, line.as_str(), &file, script.as_bytes())?;
-        assert!(rt; put.as_slice() == want.as_bytes(), "{mode}, {n} vertices");
+    let head = format!(in alloc; "mdt {mode}\nt {tree}\n{less}\n")?;
+    Ok(format!(in alloc; "{head}{more}\n{less}\nend\n")?)
+}
+
+static SIZES: [(u32, u32); 10] = [
+    (62, 4_095),
+    (63, 4_096),
+    (64, 64),
+    (65, 16_383),
+    (1_023, 4_095),
+    (1_024, 4_096),
+    (1_025, 4_095),
+    (4_095, 4_095),
+    (4_096, 4_096),
+    (4_097, 4_097),
+];
+
+#[test]
+fn sessions_over_graphs_of_all_sizes(rt: HostRuntime) -> Result<(), Fail> {
+    for (n, name) in &SIZES {
+        expect_session(&rt, rt.alloc(), "edit", *n, *name)?;
+        expect_session(&rt, rt.alloc(), "cograph", *n, *name)?;
     }
     Ok(())
 }
 
 #[test]
-fn sessions_over_graphs_of_all_sizes(rt: HostRuntime) -> Result<(), Fail> {
+fn sessions_that_widen_their_rows(rt: HostRuntime) -> Result<(), Fail> {
     let alloc = rt.alloc();
-    for (n, name) in [
-        (62, 4_095),
-        (63, 4_096),
-        (64, 64),
-        (65, 16_383),
-        (1_023, 4_095),
-        (1_024, 4_096),
-        (1_025, 4_095),
-        (4_095, 4_095),
-        (4_096, 4_096),
-        (4_097, 4_097),
-    ] {
-        expect_sessions(&rt, alloc, n, name)?;
-    }
-    for (script, want) in [
-        ("+v 4095 0\n", "mdt edit\nt 0\nok S(0,4095)\nend\n"),
-        ("+v 4096 0\n", "mdt edit\nt 0\nok S(0,4096)\nend\n"),
-        ("+v 16383 0\n", "mdt edit\nt 0\nok S(0,16383)\nend\n"),
-    ] {
-        let put = output_of(alloc, "edit g6 g s", b"@\n", script.as_bytes())?;
-        assert_eq!(&rt; put.as_slice(), want.as_bytes());
-    }
-    Ok(())
+    static TABLE: [(&str, &[u8], &[u8], &str); 3] = [
+        (
+            "edit g6 g s",
+            b"@\n",
+            b"+v 4095 0\n",
+            "0|mdt edit\nt 0\nok S(0,4095)\nend\n|",
+        ),
+        (
+            "edit g6 g s",
+            b"@\n",
+            b"+v 4096 0\n",
+            "0|mdt edit\nt 0\nok S(0,4096)\nend\n|",
+        ),
+        (
+            "edit g6 g s",
+            b"@\n",
+            b"+v 16383 0\n",
+            "0|mdt edit\nt 0\nok S(0,16383)\nend\n|",
+        ),
+    ];
+    expect_each(&rt, alloc, &TABLE)
+}
+
+// Sees that the report of a session is accepted in which a vertex with this name comes.
+fn expect_report(rt: &impl Abort, alloc: Global, mode: &str, name: u32) -> Result<(), Fail> {
+    let script = format!(in alloc; "+v {name} 0\n-v 1\n+e 0 {name}\n")?;
+    let line = format!(in alloc; "{mode} g6 g s")?;
+    let report = output_of(alloc, line.as_str(), b"Bw\n", script.as_bytes())?;
+    let line = format!(in alloc; "check {mode} g6 g s r")?;
+    let accepted = "0|accepted\n|";
+    expect_check(
+        rt,
+        alloc,
+        line.as_str(),
+        b"Bw\n",
+        script.as_bytes(),
+        &report,
+        accepted,
+    )
 }
 
 #[test]
 fn reports_of_sessions_of_all_widths(rt: HostRuntime) -> Result<(), Fail> {
-    let alloc = rt.alloc();
     for name in [4_095, 4_096] {
         for mode in ["edit", "cograph", "quiet"] {
-            let script = format!(in alloc; "+v {name} 0\n-v 1\n+e 0 {name}\n")?;
-            let line = format!(in alloc; "{mode} g6 g s")?;
-            let report = output_of(alloc, line.as_str(), b"Bw\n", script.as_bytes())?;
-            let words = words_of(alloc, format!(in alloc; "check {mode} g6 g s r")?.as_str())?;
-            let mut files = MemFiles::new(alloc, Vec::new(alloc));
-            files.add("g", b"Bw\n")?;
-            files.add("s", script.as_bytes())?;
-            files.add("r", report.as_slice())?;
-            let mut out = MemSink::new(alloc, Vec::new(alloc), 0);
-            let mut err = MemSink::new(alloc, Vec::new(alloc), 0);
-            let status = run(alloc, &words, &mut files, &mut out, &mut err);
-            assert_eq!(&rt; status.number(), 0, "{mode}, {name}");
-            assert_eq!(&rt; out.bytes(), b"accepted\n".as_slice());
+            expect_report(&rt, rt.alloc(), mode, name)?;
         }
     }
     Ok(())

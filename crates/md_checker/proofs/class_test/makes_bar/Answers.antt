@@ -3,7 +3,8 @@ use Rattle.md_graph.proofs.Limits.{words_few}
 use Rattle.md_report.specs.Cographs.{IsCograph}
 use Rattle.md_report.specs.Made.{HasChange}
 use Rattle.md_report.proofs.MadePaths.{shown}
-use Rattle.md_checker.proofs.ClassEdits.{allowed_cograph, when_none, allowed_added, allowed_gone, allowed_new, allowed_left}
+use Rattle.md_report.proofs.AllowedGraphs.{allowed_cograph}
+use Rattle.md_checker.proofs.ClassEdits.{when_none, allowed_added, allowed_gone, allowed_new, allowed_left}
 use Rattle.md_checker.proofs.Judged.{some_bars}
 use Rattle.md_checker.proofs.class_test.makes_bar.Goals as goal
 

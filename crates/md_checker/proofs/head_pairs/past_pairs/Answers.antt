@@ -1,5 +1,5 @@
-use Rattle.md_outline.proofs.HeadPairs.{ascend_two}
+use Rattle.std.proofs.Common.{arith}
 use Rattle.md_checker.proofs.head_pairs.past_pairs.Goals as goal
 
-pub spell_places-requires-clause-ascending : goal.spell_places-requires-clause-ascending
-spell_places-requires-clause-ascending g c = ascend_two c.args.heads.now c.requires.heads.order
+pub spell-requires : goal.spell-requires
+spell-requires g c = record { some = c.requires.heads.some; ascending = c.requires.heads.order; few = (let few = c.requires.few in omega arith) }

@@ -1,6 +1,7 @@
 use Rattle.std.proofs.Common.{sym, ◌∙◌, arith}
 use Rattle.md_graph.proofs.SetLemmas.{clash}
-use Rattle.md_checker.proofs.Judging.{no_bytes, some_left, rejected, accepted, came, stuck_line, stuck_rest, stuck_empty}
+use Rattle.md_report.proofs.Behind.{nothing_left}
+use Rattle.md_checker.proofs.Judging.{some_left, rejected, accepted, came, stuck_line, stuck_rest, stuck_empty}
 use Rattle.md_checker.proofs.line_judge.judge.Goals as goal
 
 pub returns-in_default : goal.returns-in_default
@@ -56,5 +57,5 @@ returns g c =
     record {
       answer =
           accepted j.may_come j.next j.line_text j.last g.met.J.LineJudge.spells g.met.J.LineJudge.ends (j.place c.args.line_judge) (j.place c.loop-rest.line_judge) c.args.report.now c.loop-rest.rest.now c.loop-rest.line
-          c.loop-rest.invariant.come (c.complete.ensures.complete.0 c.if-not-complete.false) (no_bytes c.loop-rest.rest.now (sym c.is_empty.ensures ∙ c.loop-rest-test.false));
+          c.loop-rest.invariant.come (c.complete.ensures.complete.0 c.if-not-complete.false) (nothing_left c.loop-rest.rest.now (sym c.is_empty.ensures ∙ c.loop-rest-test.false));
     }

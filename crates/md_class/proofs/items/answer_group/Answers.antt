@@ -1,6 +1,5 @@
 use Rattle.std.proofs.Common.{◌≤◌, ◌*◌, Option, Ok, sym, ◌∙◌, subst, rules}
 use Rattle.md_graph.proofs.Limits.{words_few}
-use Rattle.md_tree.specs.Plain.{plain_option}
 use Rattle.md_bar.specs.declared.ClassLine.{ClassLine}
 use Rattle.md_bar.specs.ClassLines.{plain_class_line}
 use Rattle.md_report.specs.Classes.{IsAllowedIn}
@@ -8,8 +7,8 @@ use Rattle.md_class.specs.ClassAnswers.{IsGroupEnd}
 use Rattle.md_class.proofs.ClassItems.{goes, may_back, whole_group, ended_group}
 use Rattle.md_class.proofs.items.answer_group.Goals as goal
 
-pub to_tree-requires : goal.to_tree-requires
-to_tree-requires g c = let den = c.apply_edits.ensures.denotes in record { sound = (den.0, den.1) }
+pub told_of-requires : goal.told_of-requires
+told_of-requires g c = (c.apply_edits.new.graph, c.apply_edits.ensures.denotes)
 
 pub returns-in-Ok-clause-step : goal.returns-in-Ok-clause-step
 returns-in-Ok-clause-step g c =
@@ -17,8 +16,13 @@ returns-in-Ok-clause-step g c =
     let items = c.args.history.now.items in
     let told = c.in-Ok-None.ensures.applied items c.open_item.ensures.items in
     let all = subst (λ (o : Option ClassLine). IsGroupEnd c.args.class c.args.edits.now c.apply_edits.new.graph told.0 (Ok o)) c.in-Ok-None.field-0-is told.4 in
-    whole_group (64 * g.row.W) c.args.class c.args.graph.now items c.requires.fits (words_few g.row.W graph.limit) graph.graph graph.below c.requires.allowed c.args.edits.now c.requires.names c.apply_edits.new.graph told.1 told.0 told.2
-    all (plain_option c.in-Ok.new) (c.in-Ok.ensures.tree c.apply_edits.new.graph c.apply_edits.ensures.denotes) c.apply_edits.new.history.items told.3
+    let so = c.in-Ok.ensures c.apply_edits.new.graph c.apply_edits.ensures.denotes in (
+      so.0,
+      so.1,
+      so.2,
+      whole_group (64 * g.row.W) c.args.class c.args.graph.now items c.requires.fits (words_few g.row.W graph.limit) graph.graph graph.below c.requires.allowed c.args.edits.now c.requires.names c.apply_edits.new.graph told.1 told.0 told.2
+          all so.0 so.1 c.apply_edits.new.history.items told.3,
+    )
 
 pub take_back_item-requires : goal.take_back_item-requires
 take_back_item-requires g c =

@@ -1,16 +1,16 @@
-use Rattle.std.proofs.Common.{Ok, refl, sym, ◌∙◌, subst, arith}
+use Rattle.std.proofs.Common.{false, Ok, refl, sym, ◌∙◌, subst, arith}
 use Rattle.md_graph.specs.PlainGraph.{PlainGraph}
 use Rattle.md_script.specs.Pasts.{inverse_of, HasApplied}
 use Rattle.md_script.proofs.GroupLemmas.{applied_more}
 use Rattle.md_report.specs.Classes.{IsAllowedIn}
 use Rattle.md_class.specs.declared.items.Answer.{Answer}
-use Rattle.md_class.specs.ClassAnswers.{IsAnswered}
+use Rattle.md_class.specs.ClassAnswers.{IsClassAnswered}
 use Rattle.md_class.proofs.ClassItems.{bar_ends}
 use Rattle.md_class.proofs.items.apply_edits.Goals as goal
 
 pub loop-i-preserved : goal.loop-i-preserved
 loop-i-preserved g c =
-    let told = subst (λ (a : Answer). IsAnswered c.args.class c.loop-i.graph c.get.result.now c.loop-i.history.items (Ok a) c.step.new.graph c.step.new.history.items) c.in-Applied.is c.in_ok-reason.ensures.answer in
+    let told = subst (λ (a : Answer). IsClassAnswered c.args.class false c.loop-i.graph c.get.result.now c.loop-i.history.items (Ok a) c.step.new.graph c.step.new.history.items) c.in-Applied.is c.in_ok-reason.ensures.answer in
     record {
       done = λ others is.
           let so = c.loop-i.invariant.done others is in (
@@ -27,7 +27,7 @@ loop-i-preserved g c =
 
 pub returns-in-Barred-clause-applied : goal.returns-in-Barred-clause-applied
 returns-in-Barred-clause-applied g c = λ others is.
-    let told = subst (λ (a : Answer). IsAnswered c.args.class c.loop-i.graph c.get.result.now c.loop-i.history.items (Ok a) c.step.new.graph c.step.new.history.items) c.in-Barred.is c.in_ok-reason.ensures.answer in
+    let told = subst (λ (a : Answer). IsClassAnswered c.args.class false c.loop-i.graph c.get.result.now c.loop-i.history.items (Ok a) c.step.new.graph c.step.new.history.items) c.in-Barred.is c.in_ok-reason.ensures.answer in
     let so = c.loop-i.invariant.done others is in (
       c.loop-i.i,
       so.0,

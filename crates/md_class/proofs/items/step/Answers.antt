@@ -9,7 +9,7 @@ use Rattle.md_script.proofs.ChangeLemmas.{names_within}
 use Rattle.md_report.specs.Cographs.{IsCograph}
 use Rattle.md_class.specs.declared.items.Fit.TheVariants as fits
 use Rattle.md_class.specs.ClassAnswers.{IsFitOf}
-use Rattle.md_class.proofs.ClassGraphs.{allowed_cograph}
+use Rattle.md_report.proofs.AllowedGraphs.{allowed_cograph}
 use Rattle.md_class.proofs.items.step.Goals as goal
 
 pub change-requires-clause-denotes : goal.change-requires-clause-denotes
@@ -25,8 +25,8 @@ p4_behind-requires g c =
       ),
     )
 
-pub tree_or_bar-requires : goal.tree_or_bar-requires
-tree_or_bar-requires g c =
+pub fit_of-requires : goal.fit_of-requires
+fit_of-requires g c =
     let none = sym c.reason.ensures ∙ c.in_default.is in
     (after c.args.graph.now c.args.edit.now, c.change.ensures.done c.args.graph.now c.requires.denotes none c.if-not-change.false)
 
@@ -64,14 +64,14 @@ change_back-requires-in-Err g c =
       ),
     )
 
-pub returns-in-Ok-Tree-clause-answer : goal.returns-in-Ok-Tree-clause-answer
-returns-in-Ok-Tree-clause-answer g c =
+pub returns-in-Ok-Told-clause-answer : goal.returns-in-Ok-Told-clause-answer
+returns-in-Ok-Told-clause-answer g c =
     let s = c.args.graph.now in
     let none : reason_of s c.args.edit.now ≡ None = sym c.reason.ensures ∙ c.in_default.is in
-    let fit = subst (IsFitOf c.args.class (after s c.args.edit.now)) c.in-Ok-Tree.field-0-is (c.in-Ok-Tree.ensures (after s c.args.edit.now) (c.change.ensures.done s c.requires.denotes none c.if-not-change.false)) in (
+    let fit = subst (IsFitOf c.args.class c.args.whole (after s c.args.edit.now)) c.in-Ok-Told.field-0-is (c.in-Ok-Told.ensures (after s c.args.edit.now) (c.change.ensures.done s c.requires.denotes none c.if-not-change.false)) in (
       none,
       c.apply.ensures,
-      subst (λ (k : PlainGraph). IsFitOf c.args.class k (fits.Tree c.in-Ok-Tree.new)) (sym c.apply.ensures) fit,
+      subst (λ (k : PlainGraph). IsFitOf c.args.class c.args.whole k (fits.Told c.in-Ok-Told.told)) (sym c.apply.ensures) fit,
       λ last others is. c.push.ensures.items last others is ∙ ap (λ (e : Edit). (last ++ e ∷ []) ∷ others) c.inverse-past.ensures.inverse,
     )
 
@@ -79,7 +79,7 @@ pub returns-in-Ok-Bar-clause-answer : goal.returns-in-Ok-Bar-clause-answer
 returns-in-Ok-Bar-clause-answer g c =
     let s = c.args.graph.now in
     let none : reason_of s c.args.edit.now ≡ None = sym c.reason.ensures ∙ c.in_default.is in
-    (none, subst (IsFitOf c.args.class (after s c.args.edit.now)) c.in-Ok-Bar.field-0-is (c.in-Ok-Bar.ensures (after s c.args.edit.now) (c.change.ensures.done s c.requires.denotes none c.if-not-change.false)), (refl, refl))
+    (none, subst (IsFitOf c.args.class c.args.whole (after s c.args.edit.now)) c.in-Ok-Bar.field-0-is (c.in-Ok-Bar.ensures (after s c.args.edit.now) (c.change.ensures.done s c.requires.denotes none c.if-not-change.false)), (refl, refl))
 
 pub returns-in-Ok-Bar-clause-denotes : goal.returns-in-Ok-Bar-clause-denotes
 returns-in-Ok-Bar-clause-denotes g c =

@@ -2,30 +2,30 @@ use Rattle.std.proofs.Common.{◌≡◌, ◌<◌, ℕ, true, length, refl, sym, 
 use Rattle.md_graph.specs.Sets.{Has}
 use Rattle.md_digraph.specs.PlainDigraph.{has_arc_to}
 use Rattle.md_decompose.proofs.Heads.{heads_rise}
-use Rattle.md_ddecompose.proofs.ArcPairs.{child_within, child_some, arcs_listed}
+use Rattle.md_decompose.proofs.Joining.{child_some, child_within}
+use Rattle.md_ddecompose.proofs.ArcPairs.{arcs_listed}
 use Rattle.md_ddecompose.proofs.arc_pairs.pairs_by_places.Goals as goal
 
 pub heads_of-heads-requires : goal.heads_of-heads-requires
-heads_of-heads-requires g c =
-    let arc = has_arc_to c.args.graph.now in (
-      search rules,
+heads_of-heads-requires g c = (
+  search rules,
+  (
+    search rules,
+    (
+      c.within_limit.ensures.limit,
       (
-        search rules,
-        (
-          c.within_limit.ensures.limit,
-          (
-            λ k v room h. c.requires.room v (child_within arc c.args.set.now c.args.sets.now c.requires.children k v room h),
-            (child_some arc c.args.set.now c.args.sets.now c.requires.children, c.requires.children.order),
-          ),
-        ),
+        λ k v room h. c.requires.room v (child_within c.args.set.now c.args.sets.now c.requires.children.exactly k v room h),
+        (child_some c.args.set.now c.args.sets.now c.requires.children.exactly, c.requires.children.order),
       ),
-    )
+    ),
+  ),
+)
 
 pub head_arcs-requires : goal.head_arcs-requires
 head_arcs-requires g c =
     let heads = c.heads_of-heads.ensures.heads in
     let within : (v : ℕ) → Has c.heads_of-heads.result v → Has c.args.set.now v = λ v h.
-    child_within (has_arc_to c.args.graph.now) c.args.set.now c.args.sets.now c.requires.children _ v (heads.below v h) (heads.least v h).member
+    child_within c.args.set.now c.args.sets.now c.requires.children.exactly _ v (heads.below v h) (heads.least v h).member
     in (
       search rules,
       (

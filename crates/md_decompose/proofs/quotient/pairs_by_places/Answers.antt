@@ -1,7 +1,8 @@
 use Rattle.md_graph.specs.Sets.{Has}
 use Rattle.std.proofs.Common.{◌<◌, ℕ, length, sym, subst, arith, rules}
 use Rattle.md_decompose.proofs.Heads.{heads_rise}
-use Rattle.md_decompose.proofs.HeadPairs.{child_within, child_some, pairs_listed}
+use Rattle.md_decompose.proofs.HeadPairs.{pairs_listed}
+use Rattle.md_decompose.proofs.Joining.{child_some, child_within}
 use Rattle.md_decompose.proofs.quotient.pairs_by_places.Goals as goal
 
 pub heads_of-heads-requires : goal.heads_of-heads-requires
@@ -12,8 +13,8 @@ heads_of-heads-requires g c = (
     (
       c.vertices-vertices.ensures.limit,
       (
-        λ k v room h. c.requires.room v (child_within c.vertices-vertices.ensures.graph c.args.set.now c.args.sets.now c.requires.prime c.requires.children k v room h),
-        (child_some c.vertices-vertices.ensures.graph c.args.set.now c.args.sets.now c.requires.prime c.requires.children, c.requires.children.order),
+        λ k v room h. c.requires.room v (child_within c.args.set.now c.args.sets.now c.requires.children.exactly k v room h),
+        (child_some c.args.set.now c.args.sets.now c.requires.children.exactly, c.requires.children.order),
       ),
     ),
   ),
@@ -23,7 +24,7 @@ pub head_pairs-requires : goal.head_pairs-requires
 head_pairs-requires g c =
     let heads = c.heads_of-heads.ensures.heads in
     let within : (v : ℕ) → Has c.heads_of-heads.result v → Has c.args.set.now v = λ v h.
-    child_within c.vertices-vertices.ensures.graph c.args.set.now c.args.sets.now c.requires.prime c.requires.children _ v (heads.below v h) (heads.least v h).member
+    child_within c.args.set.now c.args.sets.now c.requires.children.exactly _ v (heads.below v h) (heads.least v h).member
     in (
       search rules,
       (

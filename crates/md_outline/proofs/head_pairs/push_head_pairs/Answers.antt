@@ -1,13 +1,13 @@
 use Rattle.std.proofs.Common.{◌*◌, ◌<◌, get_or, rules, arith}
 use Rattle.std.proofs.lemmas.List.Elements.{All-from_get_or}
 use Rattle.md_graph.specs.declared.TheConstants.{NAMES}
-use Rattle.md_outline.proofs.HeadPairs.{ascend_two, few_heads}
+use Rattle.md_outline.proofs.HeadPairs.{few_heads}
 use Rattle.md_outline.proofs.head_pairs.push_head_pairs.Goals as goal
 
-pub spell_places-requires : goal.spell_places-requires
-spell_places-requires g c =
+pub spell-requires : goal.spell-requires
+spell-requires g c =
     let few = few_heads c.args.heads.now NAMES c.requires.order (λ i below. c.vertices-vertices.ensures.graph.names (get_or c.args.heads.now i 0) (c.requires.members i below)) in
-    record { some = c.requires.some; ascending = ascend_two c.args.heads.now c.requires.order; few = omega arith }
+    record { some = c.requires.some; ascending = c.requires.order; few = omega arith }
 
 pub from_list-all-requires : goal.from_list-all-requires
 from_list-all-requires g c =
@@ -19,4 +19,4 @@ count_pairs-requires g c = (search rules, (search rules, λ i below. c.vertices-
 pub gather_pairs-requires : goal.gather_pairs-requires
 gather_pairs-requires g c =
     let few = few_heads c.args.heads.now NAMES c.requires.order (λ i below. c.vertices-vertices.ensures.graph.names (get_or c.args.heads.now i 0) (c.requires.members i below)) in
-    (search rules, (search rules, (c.requires, ((omega arith), (c.from_list-all.ensures.members, c.in_ok-spell_places.ensures)))))
+    (search rules, (search rules, (c.requires, ((omega arith), (c.from_list-all.ensures.members, c.in_ok-spell.ensures.spelled)))))

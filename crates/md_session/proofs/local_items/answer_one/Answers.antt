@@ -1,9 +1,8 @@
-use Rattle.std.proofs.Common.{◌≡◌, ◌*◌, [], None, refl, sym, ◌∙◌, ap, subst, rules}
+use Rattle.std.proofs.Common.{◌*◌, [], refl, sym, ◌∙◌, ap, subst, rules}
 use Rattle.md_graph.specs.PlainGraph.{PlainGraph, adjacent}
 use Rattle.md_tree.specs.StrongTrees.{IsTree}
 use Rattle.md_tree.specs.Plain.{plain_option}
 use Rattle.md_script.specs.declared.item.Item.TheVariants.{One}
-use Rattle.md_script.specs.Edit.{reason_of}
 use Rattle.md_script.specs.Pasts.{AnyGraph}
 use Rattle.md_script.proofs.BackLemmas.{back_gives}
 use Rattle.md_script.proofs.GroupLemmas.{one_goes_back}

@@ -4,7 +4,6 @@ use Rattle.md_script.proofs.ChangeLemmas.{holds_at}
 use Rattle.md_script.specs.Histories.{HistoryFits}
 use Rattle.md_script.specs.Items.{HasItemNamesBelow}
 use Rattle.md_report.specs.Cographs.{IsCograph}
-use Rattle.md_report.specs.Lines.{plain_line}
 use Rattle.md_report.specs.Places.{at_items, after_end}
 use Rattle.md_report.specs.Sessions.{first_state}
 use Rattle.md_report.specs.Steps.{state_of}
@@ -13,8 +12,8 @@ use Rattle.md_top.proofs.Lines.{stopped_behind, stopped_before, puts_behind, no_
 use Rattle.md_top.proofs.ItemLoops.{none_led, led_forgotten, fits_forgotten, undo_counted, undos_left, item_put, item_stopped, items_done}
 use Rattle.md_top.proofs.cographs.put_answers.Goals as goal
 
-pub answer_line-requires : goal.answer_line-requires
-answer_line-requires g c =
+pub item_text-requires : goal.item_text-requires
+item_text-requires g c =
     let fits = fits_forgotten (64 * g.row.W) IsCograph c.loop-i.session c.loop-i.undos c.loop-i.history.items c.forget_unreached.new.history.items c.forget_unreached.ensures c.loop-i.invariant.fits in
     (search rules, (search rules, (holds_at (HasItemNamesBelow (64 * g.row.W)) c.args.script.now c.loop-i.i c.get-item.result.now c.get-item.ensures.item c.requires.names, fits)))
 
@@ -23,18 +22,18 @@ returns-in_err-history-clause-puts g c =
     stopped_behind _ (at_items (cograph_mode c.args.told) (first_state c.args.session) c.args.script.now) _ _ _ _ _ _ _ _ _ c.from_residual.ensures.1
     (no_lines _ _) (let still : g.O.Sink.faults c.args.out.now ≤ g.O.Sink.faults c.args.out.now = omega arith in still) (stopped_before _ _)
 
-pub returns-in_err-line-clause-puts : goal.returns-in_err-line-clause-puts
-returns-in_err-line-clause-puts g c =
+pub returns-in_err-text-clause-puts : goal.returns-in_err-text-clause-puts
+returns-in_err-text-clause-puts g c =
     let led = c.loop-i.invariant.led in
-    stopped_behind _ (at_items (cograph_mode c.args.told) led.state (drop c.loop-i.i c.args.script.now)) _ _ _ _ _ _ _ _ _ c.from_residual-in_err-line.ensures.1
+    stopped_behind _ (at_items (cograph_mode c.args.told) led.state (drop c.loop-i.i c.args.script.now)) _ _ _ _ _ _ _ _ _ c.from_residual-in_err-text.ensures.1
     led.progress c.loop-i.invariant.faults (stopped_before _ _)
 
-pub returns-in_err-put_report_line-clause-puts : goal.returns-in_err-put_report_line-clause-puts
-returns-in_err-put_report_line-clause-puts g c =
+pub returns-in_err-put_item_text-clause-puts : goal.returns-in_err-put_item_text-clause-puts
+returns-in_err-put_item_text-clause-puts g c =
     let kept = state_of c.loop-i.session c.forget_unreached.new.history.items in
     let led = led_forgotten (cograph_mode c.args.told) (at_items (cograph_mode c.args.told) (first_state c.args.session) c.args.script.now) (drop c.loop-i.i c.args.script.now) c.loop-i.undos c.loop-i.session c.loop-i.history.items c.forget_unreached.new.history.items _ _ c.forget_unreached.ensures c.loop-i.invariant.led in
-    item_stopped (cograph_mode c.args.told) (at_items (cograph_mode c.args.told) (first_state c.args.session) c.args.script.now) c.args.script.now c.loop-i.i c.loop-i.undos c.get-item.result.now (plain_line c.in_ok-line.line) kept _ _
-    c.get-item.ensures.item c.loop-i.invariant.counted led c.in_ok-line.ensures.line _ _ after_end _ _ _ _ c.from_residual-in_err-put_report_line.ensures.1 c.loop-i.invariant.faults c.in_err-put_report_line.ensures.puts
+    item_stopped (cograph_mode c.args.told) (at_items (cograph_mode c.args.told) (first_state c.args.session) c.args.script.now) c.args.script.now c.loop-i.i c.loop-i.undos c.get-item.result.now c.in_ok-text.ensures.text.0 kept _ _
+    c.get-item.ensures.item c.loop-i.invariant.counted led c.in_ok-text.ensures.text.2 _ _ after_end _ _ _ _ c.from_residual-in_err-put_item_text.ensures.1 c.loop-i.invariant.faults (λ q may. c.in_err-put_item_text.ensures.puts q c.in_ok-text.ensures.text.0 c.in_ok-text.ensures.text.1 may)
 
 pub undos_behind-undos-requires : goal.undos_behind-undos-requires
 undos_behind-undos-requires g c = undo_counted c.args.script.now c.loop-i.i c.get-item.result.now c.loop-i.undos c.get-item.ensures.item c.loop-i.invariant.counted
@@ -53,11 +52,11 @@ loop-i-preserved g c =
     let led = led_forgotten (cograph_mode c.args.told) (at_items (cograph_mode c.args.told) (first_state c.args.session) c.args.script.now) (drop c.loop-i.i c.args.script.now) c.loop-i.undos c.loop-i.session c.loop-i.history.items c.forget_unreached.new.history.items _ _ c.forget_unreached.ensures c.loop-i.invariant.led in
     record {
       led =
-          item_put (cograph_mode c.args.told) (at_items (cograph_mode c.args.told) (first_state c.args.session) c.args.script.now) c.args.script.now c.loop-i.i c.loop-i.undos c.get-item.result.now (plain_line c.in_ok-line.line) kept _ _
-          c.get-item.ensures.item c.loop-i.invariant.counted led c.in_ok-line.ensures.line (state_of c.answer_line.new.session c.answer_line.new.history.items) _ c.undos_behind-undos.result c.undos_behind-undos.ensures c.in_ok-line.ensures.state c.in_ok-put_report_line.ensures.puts;
+          item_put (cograph_mode c.args.told) (at_items (cograph_mode c.args.told) (first_state c.args.session) c.args.script.now) c.args.script.now c.loop-i.i c.loop-i.undos c.get-item.result.now c.in_ok-text.ensures.text.0 kept _ _
+          c.get-item.ensures.item c.loop-i.invariant.counted led c.in_ok-text.ensures.text.2 (state_of c.item_text.new.session c.item_text.new.history.items) _ c.undos_behind-undos.result c.undos_behind-undos.ensures c.in_ok-text.ensures.text.3 (λ q may. c.in_ok-put_item_text.ensures.puts q c.in_ok-text.ensures.text.0 c.in_ok-text.ensures.text.1 may);
       counted = c.undos_behind-undos.ensures ∙ undos_left c.args.script.now c.loop-i.i c.get-item.result.now c.loop-i.undos c.get-item.ensures.item c.loop-i.invariant.counted;
-      fits = c.answer_line.ensures.fits;
-      faults = omega (arith, c.loop-i.invariant.faults, c.put_report_line.ensures.faults_never_fall);
+      fits = c.item_text.ensures.fits;
+      faults = omega (arith, c.loop-i.invariant.faults, c.put_item_text.ensures.faults_never_fall);
     }
 
 pub returns-clause-puts : goal.returns-clause-puts

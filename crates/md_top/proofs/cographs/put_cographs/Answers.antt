@@ -1,7 +1,7 @@
 -- The line of an induced P4, and the end; or what comes of a cograph.
 use Rattle.std.proofs.Common.{subst}
 use Rattle.md_graph.specs.PlainGraph.{PlainGraph}
-use Rattle.md_report.specs.Lines.{not_cograph, end}
+use Rattle.md_report.specs.Lines.{not_cograph}
 use Rattle.md_report.specs.Places.{Place, at_state, after_end, next_place}
 use Rattle.md_session.specs.Answers.{IsOpened}
 use Rattle.md_top.specs.CographModes.{cograph_mode}

@@ -1,7 +1,6 @@
 -- The tree of the last state, and the end.
-use Rattle.std.proofs.Common.{◌≡◌, [], ◌≤◌, Bool, Option, refl, sym, subst, arith}
+use Rattle.std.proofs.Common.{◌≡◌, [], ◌≤◌, Bool, Option, refl, sym, ◌∙◌, subst, arith}
 use Rattle.md_graph.specs.PlainGraph.{PlainGraph, adjacent}
-use Rattle.md_tree.specs.Plain.{plain_option}
 use Rattle.md_tree.specs.StrongTrees.{IsTree}
 use Rattle.md_tree.specs.Trees.{PlainTree}
 use Rattle.md_report.specs.Lines.{tree}
@@ -21,22 +20,24 @@ returns-then-told-clause-puts g c s same =
     subst (λ (b : Bool). PutsLines (at_items (cograph_mode b) s []) after_end c.put_report_line.result (sink_run g.O.Sink c.args.out.now c.put_report_line.new.out)) (sym c.if-told.true)
     (c.put_report_line.ensures.puts (at_items modes.Cograph s []) refl)
 
-pub returns-in_err-tree-clause-puts : goal.returns-in_err-tree-clause-puts
-returns-in_err-tree-clause-puts g c s same =
+pub returns-in_err-text-clause-puts : goal.returns-in_err-text-clause-puts
+returns-in_err-text-clause-puts g c s same =
     stopped_behind _ (at_items (cograph_mode c.args.told) s []) _ _ _ _ _ _ _ _ _ c.from_residual.ensures.1
     (no_lines _ _) (let still : g.O.Sink.faults c.args.out.now ≤ g.O.Sink.faults c.args.out.now = omega arith in still) (stopped_before _ _)
 
-pub returns-in_err-put_report_line-clause-puts : goal.returns-in_err-put_report_line-clause-puts
-returns-in_err-put_report_line-clause-puts g c s same =
-    subst (λ (b : Bool). PutsLines (at_items (cograph_mode b) s []) after_end c.from_residual-in_err-put_report_line.result (sink_run g.O.Sink c.args.out.now c.put_report_line-2.new.out)) (sym c.if-told.false)
-    (stopped_behind (at_items modes.Quiet s []) (at_items modes.Quiet s []) after_end _ _ _ _ _ _ _ _ c.from_residual-in_err-put_report_line.ensures.1
+pub returns-in_err-put_text-clause-puts : goal.returns-in_err-put_text-clause-puts
+returns-in_err-put_text-clause-puts g c s same =
+    let told = c.in_ok-text.ensures in
+    subst (λ (b : Bool). PutsLines (at_items (cograph_mode b) s []) after_end c.from_residual-in_err-put_text.result (sink_run g.O.Sink c.args.out.now c.put_text.new.out)) (sym c.if-told.false)
+    (stopped_behind (at_items modes.Quiet s []) (at_items modes.Quiet s []) after_end _ _ _ _ _ _ _ _ c.from_residual-in_err-put_text.ensures.1
     (no_lines _ _) (let still : g.O.Sink.faults c.args.out.now ≤ g.O.Sink.faults c.args.out.now = omega arith in still)
-    (c.in_err-put_report_line.ensures.puts (at_items modes.Quiet s []) (tree_of_state s c.args.session.now (plain_option c.in_ok-tree.tree) same c.in_ok-tree.ensures.tree)))
+    (c.in_err-put_text.ensures.puts (at_items modes.Quiet s []) (tree told.0) (c.deref.ensures.value ∙ told.2) (tree_of_state s c.args.session.now told.0 same told.1)))
 
 pub returns-clause-puts : goal.returns-clause-puts
 returns-clause-puts g c s same =
-    subst (λ (b : Bool). PutsLines (at_items (cograph_mode b) s []) after_end c.put_report_line-3.result (sink_run g.O.Sink c.args.out.now c.put_report_line-3.new.out)) (sym c.if-told.false)
+    let told = c.in_ok-text.ensures in
+    subst (λ (b : Bool). PutsLines (at_items (cograph_mode b) s []) after_end c.put_report_line-2.result (sink_run g.O.Sink c.args.out.now c.put_report_line-2.new.out)) (sym c.if-told.false)
     (puts_behind (at_items modes.Quiet s []) at_end after_end _ _ _ _ _ _ _
-    (c.in_ok-put_report_line.ensures.puts (at_items modes.Quiet s []) (tree_of_state s c.args.session.now (plain_option c.in_ok-tree.tree) same c.in_ok-tree.ensures.tree))
-    c.put_report_line-2.ensures.faults_never_fall
-    (c.put_report_line-3.ensures.puts at_end refl))
+    (c.in_ok-put_text.ensures.puts (at_items modes.Quiet s []) (tree told.0) (c.deref.ensures.value ∙ told.2) (tree_of_state s c.args.session.now told.0 same told.1))
+    c.put_text.ensures.faults_never_fall
+    (c.put_report_line-2.ensures.puts at_end refl))

@@ -1,5 +1,5 @@
 -- The report of the directed graphs that the file spells, or the stop.
-use Rattle.std.proofs.Common.{◌≡◌, refl, ap, option_map}
+use Rattle.std.proofs.Common.{refl, ap, option_map}
 use Rattle.md_input.specs.declared.fault.Fault.TheVariants.{Graph6}
 use Rattle.md_digraph6.specs.ArcFile.{digraphs_of}
 use Rattle.md_dcheck.specs.DirectedReports.{before_directed}

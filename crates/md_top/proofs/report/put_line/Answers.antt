@@ -4,5 +4,5 @@ use Rattle.md_top.proofs.report.put_line.Goals as goal
 
 pub returns-clause-puts : goal.returns-clause-puts
 returns-clause-puts g c graphs =
-    let told = c.in_ok-text.ensures in
+    let told = c.in_ok-spell_room.ensures in
     c.put_text.ensures.puts (at_graphs c.args.mode (c.args.room.now ∷ graphs)) told.0 (c.deref.ensures.value ∙ told.2) told.1

@@ -1,4 +1,4 @@
-use Rattle.md_checker.proofs.GraphTexts.{edges_ahead}
+use Rattle.md_outline.proofs.NodeRows.{edges_ahead}
 use Rattle.md_checker.proofs.text_fit.GraphOfTextGraphKindPair.ahead.Goals as goal
 
 pub returns-clause-row : goal.returns-clause-row

@@ -1,4 +1,4 @@
 use Rattle.md_class.proofs.session.ClassSession.apply_item.Given as goal
 
-abbrev pub ghosts-answer_item : goal.ghosts-answer_item
-ghosts-answer_item a = record { name = a.blank.name; parts = a.blank.parts }
+abbrev pub ghosts-answer_uncounted : goal.ghosts-answer_uncounted
+ghosts-answer_uncounted a = record { name = a.blank.name; parts = a.blank.parts }

@@ -1,0 +1,16 @@
+use Rattle.std.proofs.Common.{◌≡◌, ◌+◌, ◌*◌, ◌<◌, ◌≤◌, ◌++◌, length}
+use Rattle.std.specs.List.{All}
+use Rattle.md_graph.specs.Words.{bits_between}
+use Rattle.md_text.specs.declared.chunk.TheConstants.{CHUNK_SIZE}
+use Rattle.md_text.specs.Pieces.{piece_text, texts_at}
+use Rattle.md_blocks.proofs.blocks.write_others.Given as goal
+
+abbrev pub invariant-loop-name : goal.invariant-loop-name
+invariant-loop-name l = record {
+  there : All (λ w. w < length l.pieces) (bits_between l.first l.left 64);
+  room : length l.chunk + 16 * length (bits_between l.first l.left 64) ≤ CHUNK_SIZE;
+  written : l.chunk ++ texts_at l.pieces (piece_text l.start) (bits_between l.first l.left 64) ≡ l.fn.chunk ++ texts_at l.pieces (piece_text l.start) (bits_between l.first l.fn.bits 64);
+}
+
+abbrev pub decreases-loop-name : goal.decreases-loop-name
+decreases-loop-name l = length (bits_between l.first l.left 64)
