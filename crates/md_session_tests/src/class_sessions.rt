@@ -5,12 +5,12 @@ ghost use Rattle.md_script.specs.Histories.{HistoryFits};
 ghost use Rattle.md_script.specs.Items.{HasItemNamesBelow};
 ghost use Rattle.md_report.specs.Classes.{IsAllowedIn};
 
-use crate::graphs::graph_of;
+use crate::graphs::{graph_of, history_for_one};
 use md_bar::{Bar, BarKind, Class, ClassLine};
 use md_class::{ClassOpenedOf, ClassSession, ClassSessionOf};
 use md_graph::{Graph, GraphOf, Memory, Steps};
 use md_report::{Line, write_line};
-use md_script::{Edit, History, HistoryOf, Item, Script, read_script};
+use md_script::{Edit, History, Item, Script, read_script};
 use std::alloc::Global;
 use std::marker::Brand;
 use std::process::Abort;
@@ -175,16 +175,18 @@ fn undos(rt: HostRuntime) -> Result<(), Fail> {
 }
 
 // An edit that would make a path of two edges.
-fn check_edge<L: Ledger>(rt: &impl Abort, alloc: Global, blank: Blank) -> Result<(), Memory>
+fn check_edge<L: Ledger>(
+    rt: &impl Abort,
+    alloc: Global,
+    session: &mut ClassSessionOf<1>,
+    blank: Blank,
+) -> Result<(), Memory>
     requires name { blank.name ≡ L.name }
     requires parts { blank.parts ≡ L.parts }
     requires some { 0 < blank.parts }
 {
     let mut steps = Steps::<L>::new(blank);
-    let graph = graph_of(rt, alloc, 4, &[(0, 1), (2, 3)])?;
-    let mut session = session_of(rt, alloc, Class::Trivial, graph)?;
-    let mut history = HistoryOf::<1>::new(alloc)?;
-    history.reserve(alloc, 2)?;
+    let mut history = history_for_one(alloc)?;
     let item = Item::One(Edit::AddEdge { u: 1, v: 2 });
     let line = session.apply_counting(alloc, &item, &mut history, &mut steps)?;
     check_line(rt, alloc, &line, "no p4 0 1 2 3")
@@ -193,7 +195,10 @@ fn check_edge<L: Ledger>(rt: &impl Abort, alloc: Global, blank: Blank) -> Result
 // A session with rows of one word.
 #[test]
 fn narrow_session(rt: HostRuntime) -> Result<(), Fail> {
-    check_edge::<Brand>(&rt, rt.alloc(), Blank::new(1))?;
+    let alloc = rt.alloc();
+    let graph = graph_of(&rt, alloc, 4, &[(0, 1), (2, 3)])?;
+    let mut session = session_of(&rt, alloc, Class::Trivial, graph)?;
+    check_edge::<Brand>(&rt, alloc, &mut session, Blank::new(1))?;
     Ok(())
 }
 
