@@ -6,10 +6,12 @@
 #![tactic(auto)]
 
 mod blocks;
+mod target;
 mod writer;
 
 pub use blocks::{bits_from, write_block};
-pub use writer::write_members;
+pub use target::{Compared, Differs, Target};
+pub use writer::{make_room, write_members};
 
 #[cfg(test)]
 mod tests;

@@ -6,39 +6,64 @@ ghost use Rattle.md_graph.specs.Words.{bits_between};
 ghost use Rattle.md_text.specs.Pieces.{piece_text, texts_at};
 
 use crate::blocks::{bits_from, write_block};
-use md_graph::{Memory, NAMES, Set};
-use md_text::{Chunk, Piece};
+use crate::target::Target;
+use md_graph::{NAMES, Set};
+use md_text::{CHUNK_SIZE, Chunk, Piece};
 
 /// Gathers, for each member of a set at or above `from`, ascending, the piece `start` and the one
-/// at the index of the member. What is gathered stands behind the text: the chunk goes to it when
-/// there is no room for the pieces of 64 members. A word of the set without members costs a look
-/// at it. Condition: there is a piece at the index of each of these members.
+/// at the index of the member. What is gathered stands behind the bytes of the target: the chunk
+/// goes to it when there is no room for the pieces of 64 members. A word of the set without members
+/// costs a look at it. Condition: there is a piece at the index of each of these members.
 ///
 /// # Errors
 ///
-/// Want of memory.
+/// Those of the target.
 // Inlined, so that a chunk of the caller's own stays in registers.
 #[inline(always)]
-pub fn write_members<const W: usize>(
+pub fn write_members<E, T: Target<E>, const W: usize>(
     set: &Set<W>,
     from: u32,
     start: Piece,
     pieces: &[Piece],
     chunk: &mut Chunk,
-    text: &mut Vec<u8>,
-) -> Result<(), Memory>
+    target: &mut T,
+) -> Result<(), E>
     requires there { All (λ v. v < length pieces.now) (ascending_from set.now from) }
-    ensures written { OnOk result (text.new.items ++ chunk.new ≡ (text.old.items ++ chunk.old)
+    ensures written { OnOk result (T.bytes target.new ++ chunk.new
+        ≡ (T.bytes target.old ++ chunk.old)
         ++ texts_at pieces.now (piece_text start) (ascending_from set.now from)) }
+    ensures text { OnOk result (T.text target.new ≡ T.text target.old) }
 {
     let Some(last) = set.last() else {
         return Ok(());
     };
     let mut next = first_word(set, from, last);
     while let Some((first, bits)) = next {
-        chunk.make_room(16 * 64, text)?;
+        make_room(16 * 64, chunk, target)?;
         write_block(first, bits, start, pieces, chunk);
         next = next_word(set, first + 64, last);
+    }
+    Ok(())
+}
+
+/// Lets the target take the bytes of the chunk if there is no room for `more` behind them.
+///
+/// # Errors
+///
+/// Those of the target.
+#[inline(always)]
+pub fn make_room<E, T: Target<E>>(
+    more: usize,
+    chunk: &mut Chunk,
+    target: &mut T,
+) -> Result<(), E>
+    requires { more ≤ CHUNK_SIZE }
+    ensures room { OnOk result (length chunk.new + more ≤ CHUNK_SIZE) }
+    ensures same { OnOk result (T.bytes target.new ++ chunk.new ≡ T.bytes target.old ++ chunk.old) }
+    ensures text { OnOk result (T.text target.new ≡ T.text target.old) }
+{
+    if chunk.room() < more {
+        target.take_chunk(chunk)?;
     }
     Ok(())
 }

@@ -26,7 +26,6 @@ use Rattle.md_comparability.proofs.Chosen.{chosen_arc}
 use Rattle.md_comparability.proofs.Listing.{arcs_more, arcs_none}
 use Rattle.md_comparability.proofs.Reached.{side_premises}
 use Rattle.md_report.specs.Lines.{arc_text, arcs_text}
-use Rattle.md_checker.specs.Gathered.{Matches}
 use Rattle.md_checker.proofs.Ordering.{holds_item}
 
 -- the piece of a name
@@ -57,17 +56,17 @@ heads_there rows pieces tail heads within count is k d below =
 
 -- ---- row by row
 
-pub arcs_begin : (rows : List NameSet) (text gathered : List ℕ) → gathered ≡ [] → Matches text text gathered (arcs_text (arcs_below rows 0))
-arcs_begin rows text gathered none behind e = e ∙ ap (λ l. l ++ behind) none ∙ sym (ap (λ l. arcs_text l ++ behind) (arcs_none rows))
+pub arcs_begin : (rows : List NameSet) (before gathered : List ℕ) → gathered ≡ [] → before ++ gathered ≡ before ++ arcs_text (arcs_below rows 0)
+arcs_begin rows before gathered none = ap (λ l. before ++ l) none ∙ sym (ap (λ l. before ++ arcs_text l) (arcs_none rows))
 
-pub arcs_on : (rows : List NameSet) (pieces : List Piece) (start : List ℕ) (tail : ℕ) (heads : NameSet) (list text rest gathered : List ℕ) → ArePositions pieces → start ≡ 32 ∷ (decimal tail ++ 62 ∷ []) →
-    heads ≡ row_of rows tail → list ≡ ascending heads → All (λ v. v < length pieces) list → Matches text rest gathered (arcs_text (arcs_below rows tail) ++ texts_at pieces start list) →
-    Matches text rest gathered (arcs_text (arcs_below rows (tail + 1)))
-arcs_on rows pieces start tail heads list text rest gathered are is_start is_row is_list there m behind e =
-    m behind e
-    ∙ ap (λ l. (arcs_text (arcs_below rows tail) ++ l) ++ behind) (heads_text pieces are start tail is_start list there ∙ ap (λ l. arcs_text (map (arc tail) l)) is_list)
-    ∙ ap (λ l. l ++ behind) (sym (flat_map-append (λ a. codes " " ++ arc_text a) (arcs_below rows tail) (map (arc tail) (ascending heads))))
-    ∙ ap (λ l. arcs_text l ++ behind) (arcs_more rows tail _ _ _ refl is_row refl)
+pub arcs_on : (rows : List NameSet) (pieces : List Piece) (start : List ℕ) (tail : ℕ) (heads : NameSet) (before now after : List ℕ) → ArePositions pieces → start ≡ 32 ∷ (decimal tail ++ 62 ∷ []) →
+    heads ≡ row_of rows tail → All (λ v. v < length pieces) (ascending heads) → now ≡ before ++ arcs_text (arcs_below rows tail) → after ≡ now ++ texts_at pieces start (ascending heads) →
+    after ≡ before ++ arcs_text (arcs_below rows (tail + 1))
+arcs_on rows pieces start tail heads before now after are is_start is_row there so put =
+    put ∙ ap (λ l. l ++ texts_at pieces start (ascending heads)) so
+    ∙ append_assoc before (arcs_text (arcs_below rows tail)) (texts_at pieces start (ascending heads))
+    ∙ ap (λ l. before ++ (arcs_text (arcs_below rows tail) ++ l)) (heads_text pieces are start tail is_start (ascending heads) there)
+    ∙ ap (λ l. before ++ l) (sym (flat_map-append (λ a. codes " " ++ arc_text a) (arcs_below rows tail) (map (arc tail) (ascending heads))) ∙ ap arcs_text (arcs_more rows tail _ _ _ refl is_row refl))
 
 -- ---- the heads of the least-edge orientation
 

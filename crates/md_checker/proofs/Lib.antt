@@ -19,7 +19,6 @@ pub mod FitStacks
 mod NamedNodes
 mod TextWalk
 mod Twins
-mod Comparing
 mod ArcTexts
 pub mod HeadPairs
 mod GraphTexts

@@ -1,14 +1,10 @@
 -- Lines that are taken by their texts alone: they tell a tree or an orientation.
-use Rattle.std.proofs.Common.{◌≡◌, ◌⊎◌, ℕ, ◌+◌, ◌≤◌, Bool, true, List, [], ◌∷◌, ◌++◌, length, drop, Some, None, codes, refl, sym, ◌∙◌, ap, subst, inl, inr, length-drop, arith}
+use Rattle.std.proofs.Common.{◌≡◌, ◌⊎◌, ℕ, ◌+◌, ◌≤◌, Bool, true, IsTrue, List, [], ◌∷◌, ◌++◌, length, drop, Some, None, Result, Ok, IfOk, codes, refl, sym, ◌∙◌, ap, subst, inl, inr, length-drop, arith}
 use Rattle.std.specs.Prelude.{slice_get}
 use Rattle.std.proofs.lemmas.List.{nil_from_length}
 use Rattle.md_graph.specs.PlainGraph.{PlainGraph, adjacent}
 use Rattle.md_script.specs.declared.edit.Edit as script
 use Rattle.md_script.specs.declared.item.Item.{Item}
-use Rattle.md_script.specs.declared.item.Item.TheVariants.{One}
-use Rattle.md_script.specs.Edit.{reason_of, after}
-use Rattle.md_script.specs.Pasts.{TakesBack}
-use Rattle.md_script.specs.Histories.{HistoryFits}
 use Rattle.md_tree.specs.Trees.{PlainTree}
 use Rattle.md_tree.specs.StrongTrees.{IsTreeOf}
 use Rattle.md_tree.specs.TreeTexts.{tree_text}
@@ -27,10 +23,9 @@ use Rattle.md_report.specs.Steps.{state_of}
 use Rattle.md_checker.specs.declared.session_checker.SessionDue.{SessionDue}
 use Rattle.md_checker.specs.declared.session_checker.SessionDue.TheVariants.{State as state_due, Items}
 use Rattle.md_checker.specs.declared.session_checker.DueTree.TheVariants.{First, Answered, Last}
-use Rattle.md_checker.specs.Judged.{IsJudged}
+use Rattle.md_checker.specs.Judged.{IsJudgedByText}
 use Rattle.md_checker.specs.Standing.{session_place, MayTell, Takes}
 use Rattle.md_checker.specs.States.{IsStateText}
-use Rattle.md_checker.proofs.Judged.{judged_edit}
 use Rattle.md_report.proofs.Groups.{drop_read}
 
 -- a graph's tree is a line that reports it
@@ -58,22 +53,20 @@ first_taken Quiet g items text told s = absurd (told refl)
 first_taken (Of class) g items text told s = (tree (Some s.tree), inr (s.allowed, (Some s.tree, s.fits, refl)), s.spelled, refl)
 
 -- the tree of the graph after an edit
-text_done : (mode : SessionMode) (g : PlainGraph) (text : List ℕ) → (mode ≡ Quiet → ⊥) → (s : IsStateText mode g (codes "ok ") text) → IsDoneLine mode g (applied (Some s.tree))
+pub text_done : (mode : SessionMode) (g : PlainGraph) (text : List ℕ) → (mode ≡ Quiet → ⊥) → (s : IsStateText mode g (codes "ok ") text) → IsDoneLine mode g (applied (Some s.tree))
 text_done Edit g text told s = (Some s.tree, s.fits, refl)
 text_done Cograph g text told s = (Some s.tree, s.fits, refl)
 text_done Quiet g text told s = absurd (told refl)
 text_done (Of class) g text told s = (Some s.tree, s.fits, refl)
 
--- the edit is a step that the text tells
-pub edit_taken : (limit : ℕ) (mode : SessionMode) (g h : PlainGraph) (items left : List (List script.Edit)) (edit : script.Edit) (text : List ℕ) (told : mode ≡ Quiet → ⊥) (s : IsStateText mode h (codes "ok ") text)
-    → IsJudged true limit mode g items (One edit) (applied (Some s.tree)) h left → (more : List Item) → Takes (at_items mode (state_of g items) (One edit ∷ more)) text (at_items mode (state_of h left) more)
-edit_taken limit mode g h items left edit text told s judged more =
-    (applied (Some s.tree), judged.0.line_is, s.spelled, ap (λ x. at_items mode x more) judged.0.state_is)
+-- what a comparison told that found the text
+pub text_told : {X : Type 0} (r : Result Bool X) (mode : SessionMode) (g : PlainGraph) (text : List ℕ) → r ≡ Ok true → IfOk r (λ fit. IsTrue fit → IsStateText mode g (codes "ok ") text) → IsStateText mode g (codes "ok ") text
+text_told r mode g text so told = subst (λ x. IfOk x (λ fit. IsTrue fit → IsStateText mode g (codes "ok ") text)) so told refl
 
-pub text_judged : (limit : ℕ) (mode : SessionMode) (g h : PlainGraph) (items left : List (List script.Edit)) (edit back : script.Edit) (text : List ℕ) (told : mode ≡ Quiet → ⊥) → HistoryFits limit (IsAllowed mode) g items → IsAllowed mode g → reason_of g edit ≡ None
-    → h ≡ after g edit → TakesBack limit g edit back → (s : IsStateText mode h (codes "ok ") text) → left ≡ (back ∷ []) ∷ items → IsJudged true limit mode g items (One edit) (applied (Some s.tree)) h left
-text_judged limit mode g h items left edit back text told fits allowed none next takes s is =
-    judged_edit limit mode g items (applied (Some s.tree)) h left fits allowed edit none h back next takes s.allowed (text_done mode h text told s) refl is
+-- an item by whose text a line was taken
+pub item_taken : (limit : ℕ) (mode : SessionMode) (g h : PlainGraph) (items left : List (List script.Edit)) (item : Item) (text : List ℕ) → IsJudgedByText true limit mode g items item text h left →
+    (more : List Item) → Takes (at_items mode (state_of g items) (item ∷ more)) text (at_items mode (state_of h left) more)
+item_taken limit mode g h items left item text j more = (j.0, j.2.0.line_is, j.1, ap (λ x. at_items mode x more) j.2.0.state_is)
 
 -- the tree of the last graph of a session in mode quiet
 last_taken : (due : SessionDue) (mode : SessionMode) (s : State) (text : List ℕ) → (due ≡ state_due) ⊎ (due ≡ Items) → (due ≡ state_due → s.earlier ≡ []) → mode ≡ Quiet → IsStateText mode s.graph (codes "t ") text →

@@ -7,7 +7,7 @@ use Rattle.md_script.specs.declared.item.Item.{Item}
 use Rattle.md_script.specs.Edit.{reason_of, after}
 use Rattle.md_script.specs.Pasts.{HasApplied}
 use Rattle.md_report.specs.declared.line.SessionMode.{SessionMode}
-use Rattle.md_report.specs.Lines.{PlainLine}
+use Rattle.md_report.specs.Lines.{PlainLine, line_text}
 use Rattle.md_report.specs.ItemLines.{IsAllowed, AnswersItem}
 use Rattle.md_report.specs.Steps.{state_of, ItemStep}
 use Rattle.md_checker.specs.declared.item_answers.Tried.{Tried}
@@ -18,6 +18,11 @@ use Rattle.md_checker.specs.declared.item_answers.Tried.TheVariants as tried
 abbrev pub IsJudged : Bool → ℕ → SessionMode → PlainGraph → List (List script.Edit) → Item → PlainLine → PlainGraph → List (List script.Edit) → Type 0
 IsJudged true limit mode g items item line h left = ItemStep limit mode g items item line h left × IsAllowed mode h
 IsJudged false limit mode g items item line h left = (AnswersItem mode (state_of g items) item line → ⊥) × ((h ≡ g) × (left ≡ items))
+
+-- the same by a text: a line with this text was taken; or none was, and both stay
+abbrev pub IsJudgedByText : Bool → ℕ → SessionMode → PlainGraph → List (List script.Edit) → Item → List ℕ → PlainGraph → List (List script.Edit) → Type 0
+IsJudgedByText true limit mode g items item text h left = (line : PlainLine) × (text ≡ line_text line) × IsJudged true limit mode g items item line h left
+IsJudgedByText false limit mode g items item text h left = (h ≡ g) × (left ≡ items)
 
 -- the edits of a group were applied to g one after the other, up to the first that is refused at h, and the last item of the history
 -- takes them back: all; or those before one against which a reason speaks; or before one after which no state may stand

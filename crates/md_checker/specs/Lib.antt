@@ -6,8 +6,6 @@ pub mod Codes
 pub mod Standing
 pub mod Checkers
 pub mod FitTests
-pub mod Gathered
-pub mod HeadPairs
 pub mod TextViews
 pub mod GraphViews
 pub mod TextFits

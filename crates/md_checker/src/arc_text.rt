@@ -1,5 +1,5 @@
 //! Compares a text with the arcs of a set. No list of them is made.
-ghost use Rattle.std.specs.Prelude.{◌≡◌, ◌++◌, ◌<◌, ◌≤◌, length, IfOk, IfSome, IsTrue};
+ghost use Rattle.std.specs.Prelude.{◌≡◌, ◌++◌, ◌<◌, ◌≤◌, length, take, IfOk, OnOk, IsTrue};
 ghost use Rattle.md_graph.specs.declared.TheConstants.{NAMES};
 ghost use Rattle.md_graph.specs.NameSet.{ascending};
 ghost use Rattle.md_tree.specs.Positions.{ArePositions};
@@ -8,7 +8,7 @@ ghost use Rattle.md_forcing.specs.ArcSet.{HasArc};
 ghost use Rattle.md_comparability.specs.Listed.{arcs_below};
 ghost use Rattle.md_report.specs.Lines.{arcs_text};
 
-use crate::piece_compare::past_each;
+use md_blocks::{Compared, Differs, Target, write_members};
 use md_forcing::ArcSetOf;
 use md_graph::{Memory, NAMES};
 use md_text::{Chunk, Piece, digits_piece, number_piece, piece_behind};
@@ -27,9 +27,10 @@ pub(crate) fn spells_arcs<const W: usize>(
         → text.now ≡ arcs_text (arcs_below set.now (length set.now))) }
 {
     let names = spell_names(alloc, set.size())?;
-    match past_arcs(set, text, &names) {
-        Some(rest) => Ok(rest.is_empty()),
-        None => Ok(false),
+    let mut compared = Compared::new(text);
+    match compare_arcs(set, &names, &mut compared) {
+        Ok(()) => Ok(compared.same == text.len()),
+        Err(_) => Ok(false),
     }
 }
 
@@ -46,23 +47,25 @@ fn spell_names(alloc: Global, size: u32) -> Result<Vec<Piece>, Memory>
     Ok(names)
 }
 
-// What stands behind the arcs of the set in a text that begins with them; a none says nothing.
-fn past_arcs<'a, const W: usize>(
+// Compares the arcs of the set.
+fn compare_arcs<const W: usize>(
     set: &ArcSetOf<W>,
-    text: &'a [u8],
     names: &[Piece],
-) -> Option<&'a [u8]>
+    compared: &mut Compared<'_>,
+) -> Result<(), Differs>
     requires heads { (a : Arc) → HasArc set.now a → a.head < length set.now }
     requires names { ArePositions names.now }
     requires count { length names.now ≡ length set.now }
-    ensures { IfSome result (λ rest. text.now
-        ≡ arcs_text (arcs_below set.now (length set.now)) ++ rest.now) }
+    ensures text { OnOk result (compared.new.text.now ≡ compared.old.text.now) }
+    ensures same { OnOk result (take compared.new.same compared.new.text.now
+        ≡ take compared.old.same compared.old.text.now
+        ++ arcs_text (arcs_below set.now (length set.now))) }
 {
     let mut chunk = Chunk::new();
-    let mut rest = text;
     for tail in 0..set.size() {
         let start = piece_behind(b' ', number_piece(tail, b'>'));
-        rest = past_each(start, set.heads(tail).members(), rest, names, &mut chunk)?;
+        let heads = set.heads(tail);
+        write_members::<Differs, Compared<'_>, W>(heads, 0, start, names, &mut chunk, compared)?;
     }
-    chunk.strip_from(rest)
+    compared.take_chunk(&mut chunk)
 }

@@ -62,6 +62,8 @@ impl<'a> Checker<'a> {
     /// The checker of a report of a mode over the graphs of a graph file, before its head. The file
     /// is read whole first, under the limit of names of the mode. Errors: the first fault of the
     /// graph file; want of memory.
+    // Never inlined, so that what it takes of the stack is free again when the report is judged.
+    #[inline(never)]
     pub fn over_graphs(
         alloc: Global,
         mode: GraphMode,
@@ -85,6 +87,8 @@ impl<'a> Checker<'a> {
     /// The checker of a report of a session of a mode on the one graph of a graph file, over a
     /// script, before its head. Both are read whole first. Errors: the first fault of the graph
     /// file, or its number of graphs, or the first fault of the script; want of memory.
+    // Never inlined, as above.
+    #[inline(never)]
     pub fn over_session(
         alloc: Global,
         mode: SessionMode,

@@ -74,7 +74,9 @@ impl<'a> GraphChecker<'a> {
     }
 
     // Whether the text is that of the tree or the orientation that is due: the line is then taken,
-    // and else nothing changes. A false says nothing.
+    // and else nothing changes. A false says nothing. Never inlined, so that the stack doesn't hold
+    // its frame in a check of a session.
+    #[inline(never)]
     pub(crate) fn takes_text(&mut self, alloc: Global, text: &[u8]) -> Result<bool, Memory>
         ensures takes { IfOk result (λ taken.
             IsTrue taken → Takes self.old text.now self.new) }

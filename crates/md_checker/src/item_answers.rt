@@ -11,22 +11,17 @@ ghost use Rattle.md_script.specs.Edit.{HasNamesBelow, reason_of, after};
 ghost use Rattle.md_script.specs.Items.{HasItemNamesBelow};
 ghost use Rattle.md_script.specs.Pasts.{Led};
 ghost use Rattle.md_script.specs.Histories.{HistoryFits};
-ghost use Rattle.md_report.specs.declared.line.SessionMode.TheVariants.{Quiet};
 ghost use Rattle.md_report.specs.Lines.{applied, applied_quiet, refused, refused_bar, group_refused, group_refused_bar, nothing_to_undo};
 ghost use Rattle.md_report.specs.Cographs.{IsCograph};
 ghost use Rattle.md_report.specs.Classes.{IsAllowedIn};
 ghost use Rattle.md_report.specs.Sessions.{HasTreeLine};
 ghost use Rattle.md_report.specs.ItemLines.{IsAllowed, IsBarred, IsDoneLine};
-ghost use Rattle.md_report.specs.Places.{at_items};
-ghost use Rattle.md_report.specs.Steps.{state_of};
 ghost use Rattle.md_checker.specs.Judged.{IsJudged, IsTried};
 ghost use Rattle.md_checker.specs.ReportLines.{plain_report_line, HasWellFormedTree};
-ghost use Rattle.md_checker.specs.Standing.{Takes};
 
 use crate::class_test::makes_bar;
 use crate::judgements::{bars_state, is_tree_of_class, is_tree_of_cograph, is_true};
 use crate::report_line::ReportLine;
-use crate::state_text::is_word_and_state;
 use crate::tree_fit::fits;
 use md_bar::{Bar, Class};
 use md_graph::{GraphOf, Memory};
@@ -39,7 +34,7 @@ use std::alloc::Global;
 
 // What came of the edits of a group that were applied one after the other.
 #[derive(Clone, Copy)]
-enum Tried {
+pub(crate) enum Tried {
     // All were applied.
     All,
     // A reason speaks against the edit behind so many.
@@ -330,7 +325,7 @@ fn answers_group<const W: usize>(
 // others back is pushed to the history. Conditions: the last item of the history has no edits,
 // there is room for the edits, their names are below `64 * W`, and the graph may be a state of a
 // session of the mode.
-fn try_edits<const W: usize>(
+pub(crate) fn try_edits<const W: usize>(
     mode: SessionMode,
     graph: &mut GraphOf<W>,
     history: &mut HistoryOf<W>,
@@ -434,50 +429,4 @@ fn is_nothing_to_undo(line: &ReportLine<'_>) -> bool
         ReportLine::Plain(Line::NothingToUndo) => true,
         _ => false,
     }
-}
-
-// Whether the text is that of a line that tells the tree of the graph after the edit: graph and
-// history are then those behind it; else, and for want of memory, they stay. A false says nothing.
-// Conditions: the names in the edit are below `64 * W`, the history fits, the graph may be a state
-// of a session of the mode, and the mode is not quiet.
-pub(crate) fn applies_by_text<const W: usize>(
-    alloc: Global,
-    mode: SessionMode,
-    graph: &mut GraphOf<W>,
-    history: &mut HistoryOf<W>,
-    edit: &Edit,
-    text: &[u8],
-) -> Result<bool, Memory>
-    requires names { HasNamesBelow (64 * W) edit.now }
-    requires told { mode ≡ Quiet → ⊥ }
-    requires fits { HistoryFits (64 * W) (IsAllowed mode) graph.old history.old.items }
-    requires allowed { IsAllowed mode graph.old }
-    ensures takes { IfOk result (λ taken. IsTrue taken → (items : List Item)
-        → Takes (at_items mode (state_of graph.old history.old.items) (One edit.now ∷ items))
-        text.now (at_items mode (state_of graph.new history.new.items) items)) }
-    ensures fits { IfOk result (λ taken. IsTrue taken
-        → HistoryFits (64 * W) (IsAllowed mode) graph.new history.new.items) }
-    ensures allowed { IfOk result (λ taken. IsTrue taken → IsAllowed mode graph.new) }
-    ensures refused { IfOk result (λ taken. ¬ IsTrue taken →
-        (graph.new ≡ graph.old) × (history.new.items ≡ history.old.items)) }
-    ensures stays { IsErr result → graph.new ≡ graph.old }
-    ensures kept { IsErr result → history.new.items ≡ history.old.items }
-{
-    if !text.starts_with(b"ok ") {
-        return Ok(false);
-    }
-    if let Some(_) = reason(graph, edit) {
-        return Ok(false);
-    }
-    history.reserve(alloc, 2)?;
-    let past = inverse(graph, edit);
-    apply(graph, edit);
-    let fit = is_word_and_state(alloc, mode, graph, b"ok ", text);
-    if is_true(&fit) {
-        history.open_item();
-        history.push(past);
-        return fit;
-    }
-    take_back(graph, &past);
-    fit
 }

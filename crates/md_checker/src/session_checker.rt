@@ -15,13 +15,14 @@ ghost use Rattle.md_checker.specs.Standing.{session_place, IsStep, MayTell, Take
 
 use crate::cograph_test::is_cograph;
 use crate::fixed_lines::{is_end, is_session_head};
-use crate::item_answers::{answers_item, applies_by_text};
+use crate::item_answers::answers_item;
+use crate::item_texts::answers_by_text;
 use crate::judgements::{closes_items, reports_state};
 use crate::report_line::ReportLine;
 use crate::state_text::is_word_and_state;
 use md_graph::{GraphOf, Memory};
 use md_report::{Line, SessionMode};
-use md_script::{HistoryOf, Item, Script};
+use md_script::{HistoryOf, Script};
 use std::alloc::Global;
 use std::marker::Model;
 
@@ -126,7 +127,9 @@ impl<const W: usize> SessionChecker<W> {
     }
 
     // Whether the text is that of the tree that is due: the line is then taken, and else nothing
-    // changes. A false says nothing.
+    // changes. A false says nothing. Never inlined, so that the stack holds the frame of one width
+    // alone.
+    #[inline(never)]
     pub(crate) fn takes_text(&mut self, alloc: Global, text: &[u8]) -> Result<bool, Memory>
         ensures takes { IfOk result (λ taken.
             IsTrue taken → Takes self.old text.now self.new) }
@@ -146,11 +149,9 @@ impl<const W: usize> SessionChecker<W> {
                 Ok(true)
             }
             DueTree::Answered => {
-                let Item::One(edit) = self.script.get(answered) else {
-                    return Ok(false);
-                };
+                let item = self.script.get(answered);
                 let (graph, history) = (&mut self.graph, &mut self.history);
-                if !applies_by_text(alloc, mode, graph, history, edit, text)? {
+                if !answers_by_text(alloc, mode, graph, history, item, text)? {
                     return Ok(false);
                 }
                 self.answered = answered + 1;

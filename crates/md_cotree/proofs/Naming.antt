@@ -1,5 +1,4 @@
--- The names among the parts of an outline: each at most once where the tree is canonical, and more than half of the parts where no node is
--- prime.
+-- The names among the parts of an outline of a canonical tree: each at most once, and more than half of the parts.
 use Rattle.std.proofs.Common.{◌≡◌, ℕ, ◌+◌, ◌*◌, ◌<◌, ◌≤◌, cond, ◌==◌, List, [], ◌∷◌, ◌++◌, length, Some, refl, ◌∙◌, ap, subst, inl, inr, arith, length-append}
 use Rattle.std.proofs.lemmas.Bool.{cases_eq, cases_lt, cases_Bool, ne_eqb}
 use Rattle.md_graph.specs.declared.TheConstants.{NAMES}
@@ -8,13 +7,14 @@ use Rattle.md_graph.proofs.SetLemmas.{clash, only_has, union_left, union_right}
 use Rattle.md_graph.specs.Linked.{times}
 use Rattle.md_lists.proofs.ListLaws.{times-append, few}
 use Rattle.md_tree.specs.declared.Kind.{Kind}
+use Rattle.md_tree.specs.declared.Kind.TheVariants.{Parallel, Series, Prime}
+use Rattle.md_tree.specs.declared.Pair.{Pair}
+use Rattle.md_tree.specs.Spellings.{graph_spelling, is_prime}
 use Rattle.md_tree.specs.Trees.{PlainTree, leaf, node, PlainTrees, no_tree, one_more, names, names_below, count, EachNode, EachNodeBelow}
-use Rattle.md_tree.specs.WellFormed.{AreDisjoint, IsCanonicalNode, IsCanonicalTree, IsWellFormed}
-use Rattle.md_tree.proofs.Spelled.{plain_two}
+use Rattle.md_tree.specs.WellFormed.{AreDisjoint, HasShapeIf, IsCanonicalNode, IsCanonicalTree, IsWellFormed}
 use Rattle.md_outline.specs.declared.outline.OutlinePart.{OutlinePart}
 use Rattle.md_outline.specs.declared.outline.OutlinePart.TheVariants.{Name, Node}
 use Rattle.md_outline.specs.Outlines.{outline_of, row_outline}
-use Rattle.md_cotree.proofs.Cographs.{NotPrime, plain_shape}
 
 -- the names among the parts
 abbrev pub named : List (OutlinePart Kind) → List ℕ
@@ -78,19 +78,25 @@ few_names t is = few NAMES (named (outline_of t)) (name_once t is.1) (λ v high.
       | inr none ↦ omega arith
     ])
 
+-- a node has two children
+two_children : (k : Kind) (cs : PlainTrees) (ps : List Pair) → HasShapeIf graph_spelling (is_prime k) k cs ps → 2 ≤ count cs
+two_children Parallel cs ps shape = shape.enough
+two_children Series cs ps shape = shape.enough
+two_children Prime cs ps shape = let four = shape.enough in omega arith
+
 mutual
-  pub few_parts : (t : PlainTree) → IsCanonicalTree t → EachNode NotPrime t → length (outline_of t) + 1 ≤ 2 * length (named (outline_of t))
-  few_parts (leaf v) each not = omega arith
-  few_parts (node k cs ps) each not =
-      let rest = few_parts_below cs each.1 not.1 in
-      let two = plain_two (plain_shape k cs ps not.0 each.0.shape) in
+  pub few_parts : (t : PlainTree) → IsCanonicalTree t → length (outline_of t) + 1 ≤ 2 * length (named (outline_of t))
+  few_parts (leaf v) each = omega arith
+  few_parts (node k cs ps) each =
+      let rest = few_parts_below cs each.1 in
+      let two = two_children k cs ps each.0.shape in
       omega arith
 
-  few_parts_below : (ts : PlainTrees) → EachNodeBelow IsCanonicalNode ts → EachNodeBelow NotPrime ts → length (row_outline ts) + count ts ≤ 2 * length (named (row_outline ts))
-  few_parts_below no_tree each not = omega arith
-  few_parts_below (one_more t ts) each not =
-      let first = few_parts t each.0 not.0 in
-      let rest = few_parts_below ts each.1 not.1 in
+  few_parts_below : (ts : PlainTrees) → EachNodeBelow IsCanonicalNode ts → length (row_outline ts) + count ts ≤ 2 * length (named (row_outline ts))
+  few_parts_below no_tree each = omega arith
+  few_parts_below (one_more t ts) each =
+      let first = few_parts t each.0 in
+      let rest = few_parts_below ts each.1 in
       let a = length-append (outline_of t) (row_outline ts) in
       let b = length-named (outline_of t) (row_outline ts) in
       omega arith

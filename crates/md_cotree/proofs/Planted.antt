@@ -250,9 +250,9 @@ plant_begin parts c i stack all links none is =
       told = ap trees_told (sym (drop_all i parts (omega arith)));
     }
 
--- the outline of such a tree is short
-pub short_outline : (t : PlainTree) (o : Option PlainTree) → o ≡ Some t → IsWellFormed o → HasNoPrime o → length (outline_of t) < 2 ^ 32
-short_outline t o some is not = go (subst IsWellFormed some is) (subst HasNoPrime some not)
+-- the outline of a tree is short
+pub short_outline : (t : PlainTree) (o : Option PlainTree) → o ≡ Some t → IsWellFormed o → length (outline_of t) < 2 ^ 32
+short_outline t o some is = go (subst IsWellFormed some is)
   where
-    go : IsWellFormed (Some t) → HasNoPrime (Some t) → length (outline_of t) < 2 ^ 32
-    go is not = let few = few_parts t is.1 not in let low = few_names t is in omega arith
+    go : IsWellFormed (Some t) → length (outline_of t) < 2 ^ 32
+    go is = let few = few_parts t is.1 in let low = few_names t is in omega arith

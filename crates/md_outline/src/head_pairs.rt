@@ -8,12 +8,12 @@ ghost use Rattle.md_graph.specs.Sets.{Has, Within};
 ghost use Rattle.md_text.specs.Pieces.{piece_text, text_at};
 ghost use Rattle.md_tree.specs.declared.Pair.{Pair};
 ghost use Rattle.md_tree.specs.Spellings.{graph_pairs};
-ghost use Rattle.md_tree.specs.TreeTexts.{pairs_text};
+ghost use Rattle.md_tree.specs.TreeTexts.{pairs_text, pairs_text_by};
 ghost use Rattle.md_outline.specs.HeadPairs.{near_heads, near_pairs, head_pairs, SpellPositions};
 ghost use Rattle.md_outline.specs.NodeRows.{is_edge_up, AreHeadsOf};
 
 use crate::pair_space::PairSpace;
-use md_blocks::write_members;
+use md_blocks::{Target, make_room, write_members};
 use md_graph::{GraphOf, Memory, Set};
 use md_text::{CHUNK_SIZE, Chunk, Piece, number_piece, piece_behind};
 use md_tree::{Pair, Paired};
@@ -124,57 +124,66 @@ fn put_head<const W: usize>(
 {
     let _vertices = graph.vertices();
     if whole {
-        return put_row(text, graph.row(head), head + 1, low, space);
+        return put_row::<Pair, Memory, Vec<u8>, W>(text, graph.row(head), head + 1, low, space);
     }
     let near = graph.row(head).and(all);
-    put_row(text, &near, head + 1, low, space)
+    put_row::<Pair, Memory, Vec<u8>, W>(text, &near, head + 1, low, space)
 }
 
-// Gathers the pairs of the position `low` with those of the near heads from a name on. Never
-// inlined, so that its loops have the registers to themselves.
+/// Gathers the pairs of the position `low` with those of the near heads from a name on, each behind
+/// the mark that `space` has for it. What is gathered stands behind the bytes of the target, which
+/// takes them when there is no room for more. Conditions: the position has at most five digits, and
+/// each of these heads has its place.
+///
+/// # Errors
+///
+/// Those of the target.
+// Never inlined, so that its loops have the registers to themselves.
 #[inline(never)]
-fn put_row<const W: usize>(
-    text: &mut Vec<u8>,
+pub fn put_row<P: Paired, E, T: Target<E>, const W: usize>(
+    target: &mut T,
     near: &Set<W>,
     from: u32,
     low: u32,
     space: &mut PairSpace,
-) -> Result<(), Memory>
+) -> Result<(), E>
     requires low { low < 10 ^ 5 }
     requires there { All (λ v. v < length space.old.places) (ascending_from near.now from) }
-    ensures written { OnOk result ((e : ℕ → ℕ → Bool) (v j : ℕ) (ws : List ℕ) (more : List Pair)
+    ensures written { OnOk result ((e : ℕ → ℕ → Bool) (v j : ℕ) (ws : List ℕ) (more : List P)
         → SpellPositions space.old.places j ws → ascending_from near.now from ≡ near_heads e v ws
-        → (text.new.items ++ space.new.chunk) ++ pairs_text space.new.mark more
-        ≡ (text.old.items ++ space.old.chunk)
-        ++ pairs_text space.old.mark (near_pairs graph_pairs e v low j ws ++ more)) }
+        → (T.bytes target.new ++ space.new.chunk) ++ pairs_text_by P.rules space.new.mark more
+        ≡ (T.bytes target.old ++ space.old.chunk)
+        ++ pairs_text_by P.rules space.old.mark (near_pairs P.rules e v low j ws ++ more)) }
+    ensures text { OnOk result (T.text target.new ≡ T.text target.old) }
     ensures places { space.new.places ≡ space.old.places }
 {
     let Some(first) = near.first_from(from) else {
         return Ok(());
     };
-    let digits = number_piece(low, Pair::between());
+    let digits = number_piece(low, P::between());
     let start = piece_behind(space.mark, digits);
     space.mark = b',';
     let pieces = space.places.as_slice();
-    put_pair(text, start, first, pieces, &mut space.chunk)?;
+    put_pair(target, start, first, pieces, &mut space.chunk)?;
     let start = piece_behind(b',', digits);
-    write_members(near, first + 1, start, pieces, &mut space.chunk, text)
+    write_members(near, first + 1, start, pieces, &mut space.chunk, target)
 }
 
-// Gathers the piece `start` and the one at the index of a name; a chunk without room for them goes
-// to the text first.
-fn put_pair(
-    text: &mut Vec<u8>,
+// Gathers the piece `start` and the one at the index of a name; where the chunk has no room for
+// them, the target takes its bytes first.
+fn put_pair<E, T: Target<E>>(
+    target: &mut T,
     start: Piece,
     name: u32,
     pieces: &[Piece],
     chunk: &mut Chunk,
-) -> Result<(), Memory>
+) -> Result<(), E>
     requires { name < length pieces.now }
-    ensures { OnOk result (text.new.items ++ chunk.new ≡ (text.old.items ++ chunk.old)
+    ensures put { OnOk result (T.bytes target.new ++ chunk.new ≡ (T.bytes target.old ++ chunk.old)
         ++ (piece_text start ++ text_at pieces.now name)) }
+    ensures text { OnOk result (T.text target.new ≡ T.text target.old) }
 {
-    chunk.make_room(PAIR_ROOM, text)?;
+    make_room(PAIR_ROOM, chunk, target)?;
     chunk.put_both(start, pieces[name as usize]);
     Ok(())
 }

@@ -7,6 +7,7 @@ mod outline_parts;
 mod pair_space;
 mod writer;
 
+pub use head_pairs::put_row;
 pub use outline::OutlinePart;
 pub use outline_parts::{has_no_prime_part, tree_outline};
 pub use pair_space::{HeadPlaces, PairSpace};

@@ -4,4 +4,4 @@ use Rattle.md_cotree.proofs.Planted.{short_outline}
 use Rattle.md_cotree.proofs.planting.from_tree.Goals as goal
 
 pub tree_outline-requires : goal.tree_outline-requires
-tree_outline-requires c = record { short = short_outline _ (plain_option c.args.tree.now) (ap plain_option c.in-Some.is) c.requires.well_formed c.requires.no_prime }
+tree_outline-requires c = record { short = short_outline _ (plain_option c.args.tree.now) (ap plain_option c.in-Some.is) c.requires.well_formed }

@@ -5,7 +5,7 @@ use Rattle.md_cotree.proofs.Planted.{short_outline}
 use Rattle.md_tree_tests.proofs.cotrees.outline_and_back.Goals as goal
 
 pub tree_outline-requires : goal.tree_outline-requires
-tree_outline-requires g c = record { short = short_outline _ (plain_option c.args.tree.now) (ap plain_option c.in-Some.is) c.requires.well_formed c.requires.no_prime }
+tree_outline-requires g c = record { short = short_outline _ (plain_option c.args.tree.now) (ap plain_option c.in-Some.is) c.requires.well_formed }
 
 pub outline-requires : goal.outline-requires
 outline-requires g c =
