@@ -52,11 +52,7 @@ pub fn write_members<E, T: Target<E>, const W: usize>(
 ///
 /// Those of the target.
 #[inline(always)]
-pub fn make_room<E, T: Target<E>>(
-    more: usize,
-    chunk: &mut Chunk,
-    target: &mut T,
-) -> Result<(), E>
+pub fn make_room<E, T: Target<E>>(more: usize, chunk: &mut Chunk, target: &mut T) -> Result<(), E>
     requires { more ≤ CHUNK_SIZE }
     ensures room { OnOk result (length chunk.new + more ≤ CHUNK_SIZE) }
     ensures same { OnOk result (T.bytes target.new ++ chunk.new ≡ T.bytes target.old ++ chunk.old) }

@@ -10,7 +10,7 @@ use Rattle.md_tree.specs.declared.Kind.{Kind}
 use Rattle.md_tree.specs.declared.Kind.TheVariants.{Parallel, Series, Prime}
 use Rattle.md_tree.specs.declared.Pair.{Pair}
 use Rattle.md_tree.specs.Spellings.{graph_spelling, is_prime}
-use Rattle.md_tree.specs.Trees.{PlainTree, leaf, node, PlainTrees, no_tree, one_more, names, names_below, count, EachNode, EachNodeBelow}
+use Rattle.md_tree.specs.Trees.{PlainTree, leaf, node, PlainTrees, no_tree, one_more, names, names_below, count, EachNodeBelow}
 use Rattle.md_tree.specs.WellFormed.{AreDisjoint, HasShapeIf, IsCanonicalNode, IsCanonicalTree, IsWellFormed}
 use Rattle.md_outline.specs.declared.outline.OutlinePart.{OutlinePart}
 use Rattle.md_outline.specs.declared.outline.OutlinePart.TheVariants.{Name, Node}

@@ -90,7 +90,7 @@ parts_fit (Some t) is not = record {
   find = find_all t is.1 not;
   once = name_once t is.1;
   low = λ v some. is.0 v (name_has t v some);
-  few = let n = few_names t is in let m = few_parts t is.1 not in omega arith;
+  few = let n = few_names t is in let m = few_parts t is.1 in omega arith;
   plain = (no_prime_parts (Some t)).0 not;
 }
 

@@ -1,5 +1,5 @@
 -- The rows of a graph tell the pairs of each node of its tree, at the heads of the children.
-use Rattle.std.proofs.Common.{◌≡◌, ℕ, zero, suc, ◌+◌, ◌<◌, ◌≤◌, Bool, true, List, [], ◌∷◌, length, get_or, Contains, refl, sym, ◌∙◌, ap, ap₂, subst, inl, inr, lt-ltb, ltb-true, nat_lt, arith}
+use Rattle.std.proofs.Common.{◌≡◌, ℕ, zero, suc, ◌+◌, ◌<◌, ◌≤◌, Bool, true, List, length, get_or, Contains, refl, sym, ◌∙◌, ap, ap₂, subst, inl, inr, lt-ltb, ltb-true, nat_lt, arith}
 use Rattle.std.specs.Prelude.{◌↔◌}
 use Rattle.std.proofs.lemmas.Bool.{and_parts, and_from, cases_lt}
 use Rattle.std.specs.FinSet.{contains, intersection}
@@ -28,7 +28,7 @@ use Rattle.md_tree.proofs.Nodes.{position_below}
 use Rattle.md_tree.proofs.Pairs.{one_list}
 use Rattle.md_tree.proofs.Spelled.{graph_pairs_law}
 use Rattle.md_outline.specs.HeadPairs.{head_pairs}
-use Rattle.md_outline.specs.NodeRows.{is_edge_up, head_list, AreHeadsOf, pairs_by_rows, IsNodeByRows}
+use Rattle.md_outline.specs.NodeRows.{is_edge_up, head_list, pairs_by_rows, IsNodeByRows}
 use Rattle.md_outline.proofs.Heads.{some_child, tree_head, head_least}
 use Rattle.md_outline.proofs.HeadPairs.{ascend_two, pairs_later, pairs_within, listed_in, in_listed}
 

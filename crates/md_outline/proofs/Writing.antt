@@ -1,11 +1,10 @@
 -- One part more of a tree's text.
-use Rattle.std.proofs.Common.{◌≡◌, ℕ, zero, suc, ◌+◌, ◌-◌, ◌<◌, ◌≤◌, ◌⊎◌, Bool, List, [], ◌∷◌, ◌++◌, length, take, drop, Option, Some, None, codes, append_assoc, append-nil, refl, sym, ◌∙◌, ap, ap₂, subst, inl, inr, arith, length-append}
+use Rattle.std.proofs.Common.{◌≡◌, ℕ, suc, ◌+◌, ◌-◌, ◌<◌, ◌≤◌, Bool, List, [], ◌∷◌, ◌++◌, length, take, drop, Option, Some, None, codes, append_assoc, append-nil, refl, sym, ◌∙◌, ap, ap₂, subst, inl, inr, arith, length-append}
 use Rattle.std.proofs.lemmas.List.{drop_at, same_from_push}
 use Rattle.md_graph.specs.PlainGraph.{PlainGraph, IsGraph, adjacent}
 use Rattle.md_graph.specs.Sets.{NameSet}
 use Rattle.md_text.specs.Numbers.{decimal}
 use Rattle.md_tree.specs.declared.Kind.{Kind}
-use Rattle.md_tree.specs.declared.Pair.{Pair}
 use Rattle.md_tree.specs.Heads.{head, head_at}
 use Rattle.md_tree.specs.Spellings.{letter}
 use Rattle.md_tree.specs.StrongTrees.{IsTree}
@@ -17,7 +16,7 @@ use Rattle.md_outline.specs.declared.outline.OutlinePart.TheVariants.{Name, Node
 use Rattle.md_outline.specs.declared.writer.Begun.{Begun}
 use Rattle.md_outline.specs.Outlines.{outline_of, row_outline, outline_option}
 use Rattle.md_outline.specs.NodeRows.{head_list, AreHeadsOf, pairs_by_rows, IsNodeByRows}
-use Rattle.md_outline.specs.BegunNodes.{BegunNode, begun_node, begun_nodes, heads_held, parts_left, text_left, HasChildLeft, AreHeld, IsMarkPut, IsBegun, AreBegun, IsDue, IsOnWay, MayGoOn}
+use Rattle.md_outline.specs.BegunNodes.{BegunNode, begun_node, begun_nodes, heads_held, parts_left, text_left, HasChildLeft, AreHeld, IsMarkPut, AreBegun, IsDue, IsOnWay, MayGoOn}
 use Rattle.md_outline.proofs.NodeRows.{count_heads, rows_tell}
 
 -- ---- no node is begun

@@ -1,6 +1,6 @@
 -- What the rows of a graph tell of the nodes of its tree.
 -- Source: Habib and Paul, A survey of the algorithmic aspects of modular decomposition; the order of the pairs is our own.
-use Rattle.std.specs.Prelude.{◌≡◌, ◌<◌, ℕ, suc, Bool, cond, ◌&&◌, nat_lt, List, [], ◌∷◌, length, get_or}
+use Rattle.std.specs.Prelude.{◌≡◌, ◌<◌, ℕ, Bool, cond, ◌&&◌, nat_lt, List, [], ◌∷◌, length, get_or}
 use Rattle.md_graph.specs.Sets.{NameSet, Has}
 use Rattle.md_tree.specs.declared.Kind.{Kind}
 use Rattle.md_tree.specs.declared.Pair.{Pair}

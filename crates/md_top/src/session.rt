@@ -23,9 +23,7 @@ ghost use Rattle.md_top.specs.Sinks.{sink_run, PutsLines};
 
 use crate::classes::put_class;
 use crate::cographs::put_cographs;
-use crate::put::{
-    applied_text_by_rows, fed, put_report_line, put_text, tree_text_by_rows,
-};
+use crate::put::{applied_text_by_rows, fed, put_report_line, put_text, tree_text_by_rows};
 use crate::stop::{PutStop, Stop, Verdict};
 use crate::undos::{forget_unreached, undos_behind};
 use md_graph::{GraphOf, Memory, Steps};

@@ -20,10 +20,12 @@ returns-then-is_true-clause-judged g c =
     kept_goes_back limit (IsAllowed c.args.mode) before c.try_edits.new.graph c.args.edits.now so.0 (length c.args.edits.now) (words_few g.row.W c.vertices-vertices.ensures.limit) c.vertices-vertices.ensures.graph c.vertices-vertices.ensures.below
     c.requires.allowed c.requires.names so.1 in
     let s = text_told c.is_word_and_state-fit.result c.args.mode led c.args.text.now (c.is_true.ensures.0 c.if-is_true.true) c.is_word_and_state-fit.ensures in
-    if_true c.is_word_and_state-fit.result c.is_true.result _ c.is_true.ensures c.if-is_true.true
-    (applied (Some s.tree), s.spelled,
-    judged_group limit c.args.mode before c.args.history.now.items (applied (Some s.tree)) led _ c.requires.fits c.requires.allowed c.args.edits.now led so.0 so.1 goes so.3 (text_done c.args.mode led c.args.text.now c.requires.told s) refl
-    (so.2 ∙ ap (λ (l : List (List Edit)). so.0 ∷ l) c.reserve.ensures.items))
+    if_true c.is_word_and_state-fit.result c.is_true.result _ c.is_true.ensures c.if-is_true.true (
+      applied (Some s.tree),
+      s.spelled,
+      judged_group limit c.args.mode before c.args.history.now.items (applied (Some s.tree)) led _ c.requires.fits c.requires.allowed c.args.edits.now led so.0 so.1 goes so.3 (text_done c.args.mode led c.args.text.now c.requires.told s) refl
+          (so.2 ∙ ap (λ (l : List (List Edit)). so.0 ∷ l) c.reserve.ensures.items),
+    )
 
 pub take_item_back-requires : goal.take_item_back-requires
 take_item_back-requires g c =

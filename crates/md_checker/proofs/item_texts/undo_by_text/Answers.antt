@@ -33,10 +33,12 @@ returns-then-is_true-clause-judged g c =
     let led = c.back_through.new.graph in
     let back = c.back_through.ensures.graph last.0 last.1 last.2 in
     let s = text_told c.is_word_and_state-fit.result c.args.mode led c.args.text.now (c.is_true.ensures.0 c.if-is_true.true) c.is_word_and_state-fit.ensures in
-    if_true c.is_word_and_state-fit.result c.is_true.result _ c.is_true.ensures c.if-is_true.true
-    (applied (Some s.tree), s.spelled,
-    judged_undo (64 * g.row.W) c.args.mode c.args.graph.now c.args.history.now.items (applied (Some s.tree)) c.take_item_back-then-is_true.new.graph _ c.requires.fits c.requires.allowed last.0 last.1 last.2 led back (text_done c.args.mode led c.args.text.now c.requires.told s)
-    (c.take_item_back-then-is_true.ensures.graph last.0 last.1 last.2 ∙ ap (λ (k : PlainGraph). taken_back k last.0) same ∙ sym back) (c.take_item_back-then-is_true.ensures.items last.0 last.1 last.2))
+    if_true c.is_word_and_state-fit.result c.is_true.result _ c.is_true.ensures c.if-is_true.true (
+      applied (Some s.tree),
+      s.spelled,
+      judged_undo (64 * g.row.W) c.args.mode c.args.graph.now c.args.history.now.items (applied (Some s.tree)) c.take_item_back-then-is_true.new.graph _ c.requires.fits c.requires.allowed last.0 last.1 last.2 led back (text_done c.args.mode led c.args.text.now c.requires.told s)
+          (c.take_item_back-then-is_true.ensures.graph last.0 last.1 last.2 ∙ ap (λ (k : PlainGraph). taken_back k last.0) same ∙ sym back) (c.take_item_back-then-is_true.ensures.items last.0 last.1 last.2),
+    )
 
 pub returns-clause-judged : goal.returns-clause-judged
 returns-clause-judged g c =

@@ -1,5 +1,5 @@
 use Rattle.std.specs.FinSet.{intersection}
-use Rattle.std.proofs.Common.{refl, sym, subst, ◌++◌, ◌+◌, ◌<◌, ◌^◌, get_or, rules, arith}
+use Rattle.std.proofs.Common.{refl, sym, subst, ◌++◌, ◌+◌, get_or, rules, arith}
 use Rattle.md_graph.specs.NameSet.{ascending_from}
 use Rattle.md_graph.specs.PlainGraph.{adjacent, neighbours}
 use Rattle.md_graph.specs.Sets.{Has}

@@ -1,6 +1,5 @@
 use Rattle.std.proofs.Common.{◌+◌, ◌<◌, length, ◌∙◌, rules, subst, sym, ap}
 use Rattle.std.specs.List.{All}
-use Rattle.std.specs.FinSet.{intersection}
 use Rattle.md_graph.specs.NameSet.{ascending_from}
 use Rattle.md_tree.proofs.Stacking.{if_ok}
 use Rattle.md_outline.proofs.NodeRows.{all_near}
