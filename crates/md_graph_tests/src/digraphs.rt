@@ -85,8 +85,8 @@ fn changes(rt: HostRuntime) -> Result<(), Fail> {
     between(&rt, &g, 63, &[64], &[0]);
     between(&rt, &g, 64, &[0], &[63]);
     between(&rt, &g, last, &[0], &[0]);
-    for (u, v) in NO_ARCS {
-        assert!(&rt; !g.has_arc(u, v), "no arc {u} {v}");
+    for (u, v) in &NO_ARCS {
+        assert!(&rt; !g.has_arc(*u, *v), "no arc {u} {v}");
     }
     assert!(&rt; !g.has_vertex(1) && !g.has_vertex(DIRECTED_NAMES));
     g.clear();
@@ -167,15 +167,20 @@ static CLOSURES: [Closure<'_>; 17] = [
     (5, &PARALLEL, 1, 3, &[0, 1, 2, 3]),
 ];
 
+// Sees what the least module of `u` and `v` is.
+fn closed(rt: &impl Abort, g: &Digraph, u: u32, v: u32, list: &[u32]) {
+    assert!(rt; g.has_vertex(u));
+    assert!(rt; g.has_vertex(v));
+    let mut into = Set::none();
+    directed_closure(g, u, v, &mut into);
+    expect(rt, &into, list);
+}
+
 #[test]
 fn least_modules(rt: HostRuntime) -> Result<(), Fail> {
-    let mut into = Set::none();
-    for (count, arcs, u, v, list) in CLOSURES {
-        let g = numbered(&rt, rt.alloc(), count, arcs)?;
-        assert!(&rt; g.has_vertex(u));
-        assert!(&rt; g.has_vertex(v));
-        directed_closure(&g, u, v, &mut into);
-        expect(&rt, &into, list);
+    for (count, arcs, u, v, list) in &CLOSURES {
+        let g = numbered(&rt, rt.alloc(), *count, *arcs)?;
+        closed(&rt, &g, *u, *v, *list);
     }
     Ok(())
 }

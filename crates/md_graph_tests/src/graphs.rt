@@ -92,12 +92,12 @@ static NO_EDGES: [(u32, u32); 6] = [
 // Sees the rows of the graph on 5, 64, 200 and the last name where 200 is joined to the others, and
 // 64 to the last.
 fn expect_rows(rt: &impl Abort, g: &Graph) {
-    for (v, degree) in DEGREES {
-        assert!(rt; g.has_vertex(v));
-        assert_eq!(rt; g.degree(v), degree, "degree of {v}");
+    for (v, degree) in &DEGREES {
+        assert!(rt; g.has_vertex(*v));
+        assert_eq!(rt; g.degree(*v), *degree, "degree of {v}");
     }
-    for (u, v) in NO_EDGES {
-        assert!(rt; !g.has_edge(u, v), "no edge {u} {v}");
+    for (u, v) in &NO_EDGES {
+        assert!(rt; !g.has_edge(*u, *v), "no edge {u} {v}");
     }
     assert!(rt; g.has_vertex(64));
     assert!(rt; g.neighbours(64).count() == 2 && g.neighbours(64).has(200));

@@ -45,6 +45,12 @@ static FOURS: [(u32, u32, u32, u32, bool); 7] = [
     (0, 1, 2, u32::MAX, false),
 ];
 
+// Sees whether four names are an induced path in this order.
+fn expect_four(rt: &impl Abort, g: &Graph, names: (u32, u32, u32, u32), want: bool) {
+    let (a, b, c, d) = names;
+    assert_eq!(rt; is_p4(g, &P4 { a, b, c, d }), want, "{a} {b} {c} {d}");
+}
+
 #[test]
 fn bull(rt: HostRuntime) -> Result<(), Fail> {
     let bull = made(&rt, rt.alloc(), &[(0, 1), (1, 2), (2, 3), (1, 4), (2, 4)])?;
@@ -52,9 +58,15 @@ fn bull(rt: HostRuntime) -> Result<(), Fail> {
     expect(&rt, &bull, 0, Some((0, 1, 2, 3)));
     expect(&rt, &bull, 2, Some((0, 1, 2, 3)));
     assert_eq!(rt; find_p4(&bull).map(|p| p.a), Some(0));
-    for (a, b, c, d, want) in FOURS {
-        assert_eq!(rt; is_p4(&bull, &P4 { a, b, c, d }), want, "{a} {b} {c} {d}");
+    for (a, b, c, d, want) in &FOURS {
+        expect_four(&rt, &bull, (*a, *b, *c, *d), *want);
     }
+    Ok(())
+}
+
+// With rows of one word.
+#[test]
+fn narrow_path(rt: HostRuntime) -> Result<(), Fail> {
     let edges = [(0, 1), (1, 2), (2, 3)];
     let path = GraphOf::<1>::from_edges(rt.alloc(), 4, &edges)?.expect(&rt, "edges");
     let found = find_p4(&path).expect(&rt, "a path");

@@ -43,8 +43,8 @@ static SIZES: [Sizes<'_>; 3] = [
 
 #[test]
 fn levels_of_cycles_and_paths(rt: HostRuntime) -> Result<(), Fail> {
-    for (edges, sizes) in SIZES {
-        expect(&rt, rt.alloc(), edges, sizes)?;
+    for (edges, sizes) in &SIZES {
+        expect(&rt, rt.alloc(), *edges, *sizes)?;
     }
     let graph: GraphOf<1> = GraphOf::from_edges(rt.alloc(), 5, &CYCLE)?.expect(&rt, "edges");
     assert!(rt; graph.has_edge(0, 1));

@@ -133,11 +133,11 @@ static SETS: [(&[u32], bool); 6] = [
 #[test]
 fn modules(rt: HostRuntime) -> Result<(), Fail> {
     let g = Graph::from_edges(rt.alloc(), 5, &EDGES)?.expect(&rt, "edges");
-    for (u, v, list) in CLOSURES {
-        closed(&rt, &g, u, v, list);
+    for (u, v, list) in &CLOSURES {
+        closed(&rt, &g, *u, *v, *list);
     }
-    for (list, whether) in SETS {
-        assert_eq!(rt; is_module(&g, &set(&rt, list)), whether);
+    for (list, whether) in &SETS {
+        assert_eq!(rt; is_module(&g, &set(&rt, *list)), *whether);
     }
     Ok(())
 }
@@ -159,8 +159,8 @@ static PARTS: [Part<'_>; 3] = [
 #[test]
 fn parts(rt: HostRuntime) -> Result<(), Fail> {
     let g = Graph::from_edges(rt.alloc(), 5, &EDGES)?.expect(&rt, "edges");
-    for (part, x, y, lists) in PARTS {
-        parted(&rt, &g, part, x, y, lists);
+    for (part, x, y, lists) in &PARTS {
+        parted(&rt, &g, *part, *x, *y, *lists);
     }
     turned(&rt, &g, &[0, 1, 2, 3, 4], 0, 1, &[1, 2, 3]);
     turned(&rt, &g, &[0, 3], 3, 0, &[0]);
@@ -176,6 +176,24 @@ fn classes(rt: HostRuntime) -> Result<(), Fail> {
     Ok(())
 }
 
+// Sees whether a graph and its complement are connected.
+fn expect_connected(
+    rt: &impl Abort,
+    alloc: Global,
+    count: u32,
+    edges: &[(u32, u32)],
+    wanted: (bool, bool),
+) -> Result<(), Memory> {
+    assert!(rt; count <= NAMES);
+    let g = Graph::from_edges(alloc, count, edges)?.expect(rt, "edges");
+    assert_eq!(rt;
+        (connected(&g), co_connected(&g)),
+        wanted,
+        "{count} vertices"
+    );
+    Ok(())
+}
+
 // A number of vertices, edges, and whether the graph and its complement are connected.
 static GRAPHS: [(u32, &[(u32, u32)], bool, bool); 6] = [
     (0, &[], true, true),
@@ -188,11 +206,8 @@ static GRAPHS: [(u32, &[(u32, u32)], bool, bool); 6] = [
 
 #[test]
 fn connectedness(rt: HostRuntime) -> Result<(), Fail> {
-    for (count, edges, whole, co_whole) in GRAPHS {
-        assert!(rt; count <= NAMES);
-        let g = Graph::from_edges(rt.alloc(), count, edges)?.expect(&rt, "edges");
-        assert_eq!(rt; connected(&g), whole, "{count} vertices");
-        assert_eq!(rt; co_connected(&g), co_whole, "{count} vertices");
+    for (count, edges, whole, co_whole) in &GRAPHS {
+        expect_connected(&rt, rt.alloc(), *count, *edges, (*whole, *co_whole))?;
     }
     Ok(())
 }

@@ -24,8 +24,8 @@ static PAIRS: [(u32, u32); 6] = [(0, 1), (0, 2), (0, 3), (1, 2), (1, 3), (2, 3)]
 fn each_two_of_a_path(rt: HostRuntime) -> Result<(), Fail> {
     let path = Some((0, 1, 2, 3));
     let bull = Graph::from_edges(rt.alloc(), 5, &BULL)?.expect(&rt, "edges");
-    for (u, v) in PAIRS {
-        expect(&rt, &bull, u, v, path);
+    for (u, v) in &PAIRS {
+        expect(&rt, &bull, *u, *v, path);
     }
     for u in 0..4 {
         expect(&rt, &bull, u, 4, None);
