@@ -1,5 +1,8 @@
-//! Graphs of a few vertices.
+//! Graphs of a few vertices, and histories of their sessions.
+ghost use Rattle.std.specs.Prelude.{◌≡◌, ◌≤◌, [], IfOk};
+
 use md_graph::{GraphOf, Memory};
+use md_script::HistoryOf;
 use std::alloc::Global;
 use std::process::Abort;
 
@@ -12,4 +15,14 @@ pub(crate) fn graph_of(
 ) -> Result<GraphOf<1>, Memory> {
     assert!(rt; n <= 64);
     Ok(GraphOf::from_edges(alloc, n, edges)?.expect(rt, "edges"))
+}
+
+// The history without items, with room for an edit.
+pub(crate) fn history_for_one(alloc: Global) -> Result<HistoryOf<1>, Memory>
+    ensures items { IfOk result (λ h. h.items ≡ []) }
+    ensures room { IfOk result (λ h. 2 ≤ h.spare) }
+{
+    let mut history = HistoryOf::<1>::new(alloc)?;
+    history.reserve(alloc, 2)?;
+    Ok(history)
 }

@@ -1,12 +1,12 @@
 //! Sessions over scripts, by the lines that they give.
-ghost use Rattle.std.specs.Prelude.{◌≡◌, ◌*◌, ◌<◌, ◌≤◌, [], IfOk, OnOk};
+ghost use Rattle.std.specs.Prelude.{◌≡◌, ◌*◌, ◌<◌, ◌≤◌, OnOk};
 ghost use Rattle.md_graph.specs.declared.TheConstants.{WORDS};
 ghost use Rattle.md_script.specs.Histories.{HistoryFits};
 ghost use Rattle.md_script.specs.Items.{HasItemNamesBelow, room_for};
 ghost use Rattle.md_report.specs.ItemLines.{IsAllowed};
 ghost use Rattle.md_report.specs.declared.line.SessionMode.TheVariants as modes;
 
-use crate::graphs::graph_of;
+use crate::graphs::{graph_of, history_for_one};
 use md_graph::{Graph, GraphOf, Memory, Steps};
 use md_modules::P4;
 use md_report::{Line, write_line};
@@ -210,22 +210,27 @@ fn session_on_a_path(rt: HostRuntime) -> Result<(), Fail> {
     Ok(())
 }
 
-fn edit_of_a_cograph<L: Ledger>(rt: &impl Abort, alloc: Global, blank: Blank) -> Result<(), Memory>
+// Takes the end of an edge away from a graph on three names.
+fn edit_of_a_cograph<L: Ledger>(rt: &impl Abort, session: &mut CographSessionOf<1>, blank: Blank)
     requires name { blank.name ≡ L.name }
     requires parts { blank.parts ≡ L.parts }
     requires some { 0 < blank.parts }
 {
     let mut steps = Steps::<L>::new(blank);
-    let mut session = session_of(rt, alloc, graph_of(rt, alloc, 3, &[(0, 1)])?)?;
     let edit = Edit::DelVertex { x: 1 };
     assert_eq!(rt; session.apply(&edit, &mut steps), Answer::Applied);
     assert_eq!(rt; session.vertex_count(), 2);
-    Ok(())
+}
+
+// The session with rows of one word on the graph on three names with one edge.
+fn narrow_cograph(rt: &impl Abort, alloc: Global) -> Result<CographSessionOf<1>, Memory> {
+    session_of(rt, alloc, graph_of(rt, alloc, 3, &[(0, 1)])?)
 }
 
 #[test]
 fn narrow_session_on_a_cograph(rt: HostRuntime) -> Result<(), Fail> {
-    edit_of_a_cograph::<Brand>(&rt, rt.alloc(), Blank::new(1))?;
+    let mut session = narrow_cograph(&rt, rt.alloc())?;
+    edit_of_a_cograph::<Brand>(&rt, &mut session, Blank::new(1));
     Ok(())
 }
 
@@ -262,16 +267,6 @@ fn check_undos(
     check_item(rt, alloc, session, history, &Item::Undo, "no undo")
 }
 
-// The history without items, with room for an edit.
-fn history_for_one(alloc: Global) -> Result<HistoryOf<1>, Memory>
-    ensures items { IfOk result (λ h. h.items ≡ []) }
-    ensures room { IfOk result (λ h. 2 ≤ h.spare) }
-{
-    let mut history = HistoryOf::<1>::new(alloc)?;
-    history.reserve(alloc, 2)?;
-    Ok(history)
-}
-
 // An edit of a session, and two undos.
 fn check_items(
     rt: &impl Abort,
@@ -292,15 +287,18 @@ fn items(rt: HostRuntime) -> Result<(), Fail> {
 }
 
 // An edit of a session on a cograph, and two undos, of which the second has nothing left.
-fn undo_on_a_cograph<L: Ledger>(rt: &impl Abort, alloc: Global, blank: Blank) -> Result<(), Memory>
+fn undo_on_a_cograph<L: Ledger>(
+    rt: &impl Abort,
+    alloc: Global,
+    session: &mut CographSessionOf<1>,
+    blank: Blank,
+) -> Result<(), Memory>
     requires name { blank.name ≡ L.name }
     requires parts { blank.parts ≡ L.parts }
     requires some { 0 < blank.parts }
 {
     let mut steps = Steps::<L>::new(blank);
-    let mut session = session_of(rt, alloc, graph_of(rt, alloc, 3, &[(0, 1)])?)?;
-    let mut history = HistoryOf::<1>::new(alloc)?;
-    history.reserve(alloc, 2)?;
+    let mut history = history_for_one(alloc)?;
     let item = Item::One(Edit::DelVertex { x: 1 });
     let first = session.apply_item(&item, &mut history, &mut steps);
     let second = session.apply_item(&Item::Undo, &mut history, &mut steps);
@@ -312,7 +310,8 @@ fn undo_on_a_cograph<L: Ledger>(rt: &impl Abort, alloc: Global, blank: Blank) ->
 
 #[test]
 fn items_on_cographs(rt: HostRuntime) -> Result<(), Fail> {
-    undo_on_a_cograph::<Brand>(&rt, rt.alloc(), Blank::new(1))?;
+    let mut session = narrow_cograph(&rt, rt.alloc())?;
+    undo_on_a_cograph::<Brand>(&rt, rt.alloc(), &mut session, Blank::new(1))?;
     Ok(())
 }
 

@@ -145,22 +145,23 @@ fn check_within(
     Ok(())
 }
 
+static PARTS: [(&[u32], &[u8]); 7] = [
+    (&[], b"empty"),
+    (&[3], b"3"),
+    (&[0, 4], b"P(0,4)"),
+    (&[0, 2, 3], b"P(0,S(2,3))"),
+    (&[0, 1, 2, 4], b"S(P(0,2,4),1)"),
+    (&[1, 2, 3, 4], b"R(1,2,3,4;0-1,0-3,1-2)"),
+    (&[0, 1, 2, 3, 4], b"R(P(0,4),1,2,3;0-1,1-2,2-3)"),
+];
+
 #[test]
 fn parts_of_a_prime_graph(rt: HostRuntime) -> Result<(), Fail> {
     let a = rt.alloc();
     let edges = [(0, 1), (1, 2), (2, 3), (1, 4)];
     let graph = made(&rt, a, &[0, 1, 2, 3, 4], &edges)?;
-    let rows: [(&[u32], &[u8]); 7] = [
-        (&[], b"empty"),
-        (&[3], b"3"),
-        (&[0, 4], b"P(0,4)"),
-        (&[0, 2, 3], b"P(0,S(2,3))"),
-        (&[0, 1, 2, 4], b"S(P(0,2,4),1)"),
-        (&[1, 2, 3, 4], b"R(1,2,3,4;0-1,0-3,1-2)"),
-        (&[0, 1, 2, 3, 4], b"R(P(0,4),1,2,3;0-1,1-2,2-3)"),
-    ];
-    for (names, expected) in rows {
-        check_within(&rt, a, &graph, names, expected)?;
+    for (names, expected) in &PARTS {
+        check_within(&rt, a, &graph, *names, *expected)?;
     }
     Ok(())
 }

@@ -23,55 +23,57 @@ fn check_refused(rt: &impl Abort, alloc: Global, bytes: &[u8], expected: TreeFau
     }
 }
 
-#[test]
-fn texts_of_trees(rt: HostRuntime) -> Result<(), Fail> {
-    let alloc = rt.alloc();
-    for bytes in [
-        b"empty".as_slice(),
-        b"4095",
-        b"R(0,1,2,3,4;0>2,0>4,3>1,3>4)",
-        b"O(5,4,3,2,1,0)",
-        b"P(O(2,0),1,3)",
-        b"O(P(2,3),S(0,1))",
-        b"R(O(1,0),2,3;0>1,1>2)",
-        b"S(R(O(1,0),2,3;0>1,1>2,2>0),4)",
-        b"O(4,R(0,1,2;0>1,1>2,2>0),3)",
-        b"R(0,1,2,3;0>1,1>0,1>2,2>1,2>3,3>2)",
-        b"R(0,1,2,3,4;0>1,0>2,1>2,1>3,2>3,2>4,3>0,3>4,4>0,4>1)",
-    ] {
-        check_read(&rt, alloc, bytes);
-    }
-    Ok(())
-}
+static READ: [&[u8]; 11] = [
+    b"empty",
+    b"4095",
+    b"R(0,1,2,3,4;0>2,0>4,3>1,3>4)",
+    b"O(5,4,3,2,1,0)",
+    b"P(O(2,0),1,3)",
+    b"O(P(2,3),S(0,1))",
+    b"R(O(1,0),2,3;0>1,1>2)",
+    b"S(R(O(1,0),2,3;0>1,1>2,2>0),4)",
+    b"O(4,R(0,1,2;0>1,1>2,2>0),3)",
+    b"R(0,1,2,3;0>1,1>0,1>2,2>1,2>3,3>2)",
+    b"R(0,1,2,3,4;0>1,0>2,1>2,1>3,2>3,2>4,3>0,3>4,4>0,4>1)",
+];
 
 #[test]
-fn texts_of_no_tree(rt: HostRuntime) -> Result<(), Fail> {
-    let alloc = rt.alloc();
-    for (bytes, place) in [
-        (b"R(0,1,2)".as_slice(), 7),
-        (b"R(0,1,2;0-1)", 9),
-        (b"O(0,1;0>1)", 5),
-        (b"O()", 2),
-        (b"Q(0,1)", 0),
-    ] {
-        check_refused(&rt, alloc, bytes, TreeFault::Syntax { place });
+fn texts_of_trees(rt: HostRuntime) {
+    for bytes in &READ {
+        check_read(&rt, rt.alloc(), *bytes);
     }
-    for bytes in [
-        b"R(0,1,2;1>0,0>1)".as_slice(),
-        b"R(0,1,2;0>0)",
-        b"R(0,1,2;0>3)",
-        b"R(0,1;0>1)",
-        b"O(0)",
-        b"O(0,O(1,2))",
-        b"O(0,P(1,0))",
-        b"P(1,0)",
-        b"P(1,O(2,0))",
-        b"O(4095,4096)",
-        b"16383",
-    ] {
-        check_refused(&rt, alloc, bytes, TreeFault::NotCanonical);
+}
+
+static SYNTAX: [(&[u8], u64); 5] = [
+    (b"R(0,1,2)", 7),
+    (b"R(0,1,2;0-1)", 9),
+    (b"O(0,1;0>1)", 5),
+    (b"O()", 2),
+    (b"Q(0,1)", 0),
+];
+
+static NOT_CANONICAL: [&[u8]; 11] = [
+    b"R(0,1,2;1>0,0>1)",
+    b"R(0,1,2;0>0)",
+    b"R(0,1,2;0>3)",
+    b"R(0,1;0>1)",
+    b"O(0)",
+    b"O(0,O(1,2))",
+    b"O(0,P(1,0))",
+    b"P(1,0)",
+    b"P(1,O(2,0))",
+    b"O(4095,4096)",
+    b"16383",
+];
+
+#[test]
+fn texts_of_no_tree(rt: HostRuntime) {
+    for (bytes, place) in &SYNTAX {
+        check_refused(&rt, rt.alloc(), *bytes, TreeFault::Syntax { place: *place });
     }
-    Ok(())
+    for bytes in &NOT_CANONICAL {
+        check_refused(&rt, rt.alloc(), *bytes, TreeFault::NotCanonical);
+    }
 }
 
 // The tree in which node k has the leaf k and node k + 1, order nodes and parallel ones in turn;

@@ -57,21 +57,22 @@ fn part_is<L: Ledger>(
     text_is(rt, alloc, &Some(copy), expected)
 }
 
+static PARTS: [(&[u32], &[u8]); 6] = [
+    (&[], b"empty"),
+    (&[3], b"3"),
+    (&[0, 4], b"P(0,4)"),
+    (&[0, 2, 3], b"P(0,S(2,3))"),
+    (&[1, 2, 3, 4], b"R(1,2,3,4;0-1,0-3,1-2)"),
+    (&[0, 1, 2, 3, 4], b"R(P(0,4),1,2,3;0-1,1-2,2-3)"),
+];
+
 #[test]
 fn parts_and_copies(rt: HostRuntime) -> Result<(), Fail> {
     let a = rt.alloc();
     let edges = [(0, 1), (1, 2), (2, 3), (1, 4)];
     let graph = GraphOf::<1>::from_edges(a, 5, &edges)?.expect(&rt, "edges");
-    let rows: [(&[u32], &[u8]); 6] = [
-        (&[], b"empty"),
-        (&[3], b"3"),
-        (&[0, 4], b"P(0,4)"),
-        (&[0, 2, 3], b"P(0,S(2,3))"),
-        (&[1, 2, 3, 4], b"R(1,2,3,4;0-1,0-3,1-2)"),
-        (&[0, 1, 2, 3, 4], b"R(P(0,4),1,2,3;0-1,1-2,2-3)"),
-    ];
-    for (names, expected) in rows {
-        part_is::<Brand>(&rt, a, &graph, names, expected, Blank::new(1))?;
+    for (names, expected) in &PARTS {
+        part_is::<Brand>(&rt, a, &graph, *names, *expected, Blank::new(1))?;
     }
     Ok(())
 }
@@ -157,48 +158,66 @@ fn edit<L: Ledger>(
     rebuilt(rt, alloc, graph, u, v, work)
 }
 
+// Sees that the graph on the names below a number with these edges has the tree with this text after
+// an edit.
+fn edit_of<L: Ledger>(
+    rt: &impl Abort,
+    alloc: Global,
+    graph: (u32, &[(u32, u32)]),
+    ends: (u32, u32),
+    expected: &[u8],
+    work: &mut Steps<L>,
+) -> Result<(), Memory> {
+    let (n, edges) = graph;
+    assert!(rt; n <= 64);
+    let mut graph = GraphOf::<1>::from_edges(alloc, n, edges)?.expect(rt, "edges");
+    let written = edit(rt, alloc, &mut graph, ends, work)?;
+    assert_eq!(rt; written.as_slice(), expected);
+    Ok(())
+}
+
+// How many names a graph has, its edges, the ends of the edit, and the text of the tree behind it.
+static EDITS: [(u32, &[(u32, u32)], (u32, u32), &[u8]); 10] = [
+    (
+        5,
+        &[(0, 1), (2, 3), (2, 4), (3, 4)],
+        (0, 1),
+        b"P(0,1,S(2,3,4))",
+    ),
+    (
+        5,
+        &[(0, 1), (1, 2), (2, 3), (1, 4)],
+        (0, 4),
+        b"R(S(0,4),1,2,3;0-1,1-2,2-3)",
+    ),
+    (3, &[(0, 2), (1, 2)], (0, 1), b"S(0,1,2)"),
+    (
+        4,
+        &[(0, 1), (0, 2), (1, 2), (1, 3), (2, 3)],
+        (0, 3),
+        b"S(0,1,2,3)",
+    ),
+    (5, &[(0, 1), (1, 2), (2, 3)], (1, 2), b"P(S(0,1),S(2,3),4)"),
+    (4, &[(0, 1), (1, 2), (2, 3)], (0, 3), b"S(P(0,2),P(1,3))"),
+    (6, &[(0, 2), (0, 5)], (0, 4), b"P(S(0,P(2,4,5)),1,3)"),
+    (
+        8,
+        &[(0, 3), (0, 4), (0, 5), (1, 2), (1, 6), (4, 5)],
+        (0, 1),
+        b"P(R(0,1,P(2,6),P(3,S(4,5));0-1,0-3,1-2),7)",
+    ),
+    (2, &[], (0, 1), b"S(0,1)"),
+    (2, &[(0, 1)], (0, 1), b"P(0,1)"),
+];
+
 fn edits_of_edges<L: Ledger>(rt: &impl Abort, alloc: Global, blank: Blank) -> Result<(), Memory>
     requires name { blank.name ≡ L.name }
     requires parts { blank.parts ≡ L.parts }
     requires some { 0 < blank.parts }
 {
     let mut work = Steps::<L>::new(blank);
-    let rows: [(u32, &[(u32, u32)], (u32, u32), &[u8]); 10] = [
-        (
-            5,
-            &[(0, 1), (2, 3), (2, 4), (3, 4)],
-            (0, 1),
-            b"P(0,1,S(2,3,4))",
-        ),
-        (
-            5,
-            &[(0, 1), (1, 2), (2, 3), (1, 4)],
-            (0, 4),
-            b"R(S(0,4),1,2,3;0-1,1-2,2-3)",
-        ),
-        (3, &[(0, 2), (1, 2)], (0, 1), b"S(0,1,2)"),
-        (
-            4,
-            &[(0, 1), (0, 2), (1, 2), (1, 3), (2, 3)],
-            (0, 3),
-            b"S(0,1,2,3)",
-        ),
-        (5, &[(0, 1), (1, 2), (2, 3)], (1, 2), b"P(S(0,1),S(2,3),4)"),
-        (4, &[(0, 1), (1, 2), (2, 3)], (0, 3), b"S(P(0,2),P(1,3))"),
-        (6, &[(0, 2), (0, 5)], (0, 4), b"P(S(0,P(2,4,5)),1,3)"),
-        (
-            8,
-            &[(0, 3), (0, 4), (0, 5), (1, 2), (1, 6), (4, 5)],
-            (0, 1),
-            b"P(R(0,1,P(2,6),P(3,S(4,5));0-1,0-3,1-2),7)",
-        ),
-        (2, &[], (0, 1), b"S(0,1)"),
-        (2, &[(0, 1)], (0, 1), b"P(0,1)"),
-    ];
-    for (n, edges, ends, expected) in rows {
-        let mut graph = GraphOf::<1>::from_edges(alloc, n, edges)?.expect(rt, "edges");
-        let written = edit(rt, alloc, &mut graph, ends, &mut work)?;
-        assert_eq!(rt; written.as_slice(), expected);
+    for (n, edges, ends, expected) in &EDITS {
+        edit_of(rt, alloc, (*n, *edges), *ends, *expected, &mut work)?;
     }
     Ok(())
 }

@@ -25,48 +25,47 @@ fn check_syntax(rt: &impl Abort, alloc: Global, bytes: &[u8], place: u64) {
     check_refused(rt, alloc, bytes, TreeFault::Syntax { place });
 }
 
+static READ: [&[u8]; 4] = [b"S(P(0,2),1)", b"R(0,1,2,3;0-1,1-2,2-3)", b"empty", b"4095"];
+
+static SYNTAX: [(&[u8], u64); 12] = [
+    (b"", 0),
+    (b"P(0,", 4),
+    (b"P(01,2)", 3),
+    (b"e", 1),
+    (b"emptyx", 5),
+    (b"S(0,1", 5),
+    (b"S(0,1))", 6),
+    (b"01", 1),
+    (b"R(0;00-1)", 5),
+    (b"R(0;1-2,)", 8),
+    (b"P()", 2),
+    (b"P(0)1", 4),
+];
+
+static NOT_CANONICAL: [&[u8]; 10] = [
+    b"P(1,0)",
+    b"P(0)",
+    b"P(0,P(1,2))",
+    b"16384",
+    b"99999999999999999999",
+    b"R(0,1;0-1)",
+    b"R(0,1,2,3;1-2,0-1,2-3)",
+    b"R(0,1,2,3;0-1,0-1,1-2,2-3)",
+    b"R(0,1,2,3;0-1,1-2,2-4)",
+    b"P(0,S(0,1))",
+];
+
 #[test]
-fn small_texts(rt: HostRuntime) -> Result<(), Fail> {
-    let alloc = rt.alloc();
-    for bytes in [
-        b"S(P(0,2),1)".as_slice(),
-        b"R(0,1,2,3;0-1,1-2,2-3)",
-        b"empty",
-        b"4095",
-    ] {
-        check_read(&rt, alloc, bytes);
+fn small_texts(rt: HostRuntime) {
+    for bytes in &READ {
+        check_read(&rt, rt.alloc(), *bytes);
     }
-    for (bytes, place) in [
-        (b"".as_slice(), 0),
-        (b"P(0,", 4),
-        (b"P(01,2)", 3),
-        (b"e", 1),
-        (b"emptyx", 5),
-        (b"S(0,1", 5),
-        (b"S(0,1))", 6),
-        (b"01", 1),
-        (b"R(0;00-1)", 5),
-        (b"R(0;1-2,)", 8),
-        (b"P()", 2),
-        (b"P(0)1", 4),
-    ] {
-        check_syntax(&rt, alloc, bytes, place);
+    for (bytes, place) in &SYNTAX {
+        check_syntax(&rt, rt.alloc(), *bytes, *place);
     }
-    for bytes in [
-        b"P(1,0)".as_slice(),
-        b"P(0)",
-        b"P(0,P(1,2))",
-        b"16384",
-        b"99999999999999999999",
-        b"R(0,1;0-1)",
-        b"R(0,1,2,3;1-2,0-1,2-3)",
-        b"R(0,1,2,3;0-1,0-1,1-2,2-3)",
-        b"R(0,1,2,3;0-1,1-2,2-4)",
-        b"P(0,S(0,1))",
-    ] {
-        check_refused(&rt, alloc, bytes, TreeFault::NotCanonical);
+    for bytes in &NOT_CANONICAL {
+        check_refused(&rt, rt.alloc(), *bytes, TreeFault::NotCanonical);
     }
-    Ok(())
 }
 
 fn repeat(text: &mut Vec<u8>, piece: &[u8], count: u32) -> Result<(), AllocError> {

@@ -48,7 +48,7 @@ fn by_bits(rt: &impl Abort, alloc: Global, count: u32, bits: u32) -> Result<Grap
 // Small graphs of many kinds as graph6 lines of up to 30 vertices: random ones, sparse ones,
 // cographs, permutation graphs, bipartite ones, and paths and random graphs that are put in the
 // places of one another's vertices.
-const DRAWN: [&[u8]; 16] = [
+static DRAWN: [&[u8]; 16] = [
     b"Kz]QOMQSJx}_",
     b"WvKNjVDboLB@ZJuoVpZCVeXh|Lgkv?`uJKb]]|xX~JGE@sZ",
     b"O@G?B??O????hG?AYGO?@",
@@ -318,8 +318,8 @@ fn both_programs(rt: HostRuntime) -> Result<(), Fail> {
     for (count, graphs) in [(1, 1), (2, 2), (3, 8), (4, 64), (5, 1024)] {
         compare_all(&rt, rt.alloc(), count, graphs)?;
     }
-    for line in DRAWN {
-        let graph = by_line(&rt, rt.alloc(), line)?;
+    for line in &DRAWN {
+        let graph = by_line(&rt, rt.alloc(), *line)?;
         compare(&rt, rt.alloc(), &graph)?;
     }
     Ok(())
