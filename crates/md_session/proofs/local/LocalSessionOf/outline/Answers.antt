@@ -13,16 +13,20 @@ pub tree_outline-requires : goal.tree_outline-requires
 tree_outline-requires g c =
     let s = c.self.inside in
     let graph = c.vertices-vertices.ensures.graph in
-    record { short = short_outline (plain c.in-Some.tree.now) (plain_option s.tree) (ap plain_option c.in-Some.is) (well_formed_proof (adjacent s.graph) (graph_adjacency graph) s.graph.vertices (plain_option s.tree) c.self.invariant graph.names) }
+    record { short = short_outline (plain c.in-Some.tree) (plain_option s.tree) (ap plain_option c.in-Some.is) (well_formed_proof (adjacent s.graph) (graph_adjacency graph) s.graph.vertices (plain_option s.tree) c.self.invariant graph.names) }
 
 pub returns-in-Some : goal.returns-in-Some
-returns-in-Some g c =
-    let s = c.self.inside in
-    if_ok c.tree_outline.result
-    (λ parts is. (plain_option s.tree, subst (λ (h : PlainGraph). IsTree (adjacent h) h.vertices (plain_option s.tree)) c.self.view_is c.self.invariant, is ∙ sym (ap (λ t. outline_option (plain_option t)) c.in-Some.is)))
-    c.tree_outline.ensures.outline
+returns-in-Some g c = record {
+  outline =
+      let s = c.self.inside in
+      if_ok c.tree_outline.result
+      (λ parts is. (plain_option s.tree, subst (λ (h : PlainGraph). IsTree (adjacent h) h.vertices (plain_option s.tree)) c.self.view_is c.self.invariant, is ∙ sym (ap (λ t. outline_option (plain_option t)) c.in-Some.is)))
+      c.tree_outline.ensures.outline;
+}
 
 pub returns-in-None : goal.returns-in-None
-returns-in-None g c =
-    let s = c.self.inside in
-    (plain_option s.tree, subst (λ (h : PlainGraph). IsTree (adjacent h) h.vertices (plain_option s.tree)) c.self.view_is c.self.invariant, c.new.ensures.items ∙ sym (ap (λ t. outline_option (plain_option t)) c.in-None.is))
+returns-in-None g c = record {
+  outline =
+      let s = c.self.inside in
+      (plain_option s.tree, subst (λ (h : PlainGraph). IsTree (adjacent h) h.vertices (plain_option s.tree)) c.self.view_is c.self.invariant, c.new.ensures.items ∙ sym (ap (λ t. outline_option (plain_option t)) c.in-None.is));
+}
