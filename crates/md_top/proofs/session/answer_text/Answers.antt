@@ -12,8 +12,8 @@ returns-in-Applied g c =
 pub returns-in_ok-write_line-in-Refused : goal.returns-in_ok-write_line-in-Refused
 returns-in_ok-write_line-in-Refused g c =
     let t = plain_option c.kept-kept.result.now in
-    if_ok c.fed-in-Refused.result (λ whole is. (t, c.kept-kept.ensures, is ∙ ap (λ a. fed_line (line_of_answer a t)) (sym c.in-Refused.is)))
-    (c.fed-in-Refused.ensures (refused c.in-Refused.reason) c.in_ok-write_line-in-Refused.ensures)
+    if_ok c.fed.result (λ whole is. (t, c.kept-kept.ensures, is ∙ ap (λ a. fed_line (line_of_answer a t)) (sym c.in-Refused.is)))
+    (c.fed.ensures (refused c.in-Refused.reason) c.in_ok-write_line-in-Refused.ensures)
 
 pub returns-in_ok-write_line-in-GroupRefused : goal.returns-in_ok-write_line-in-GroupRefused
 returns-in_ok-write_line-in-GroupRefused g c =
