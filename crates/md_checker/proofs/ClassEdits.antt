@@ -1,10 +1,10 @@
 -- An edit of a graph of a class: a bar of the graph after it that is no induced P4 has the name at which the edit changed the graph.
-use Rattle.std.proofs.Common.{◌≡◌, ◌≢◌, ℕ, Bool, true, false, not, ◌&&◌, ◌||◌, ◌==◌, ◌≤◌, ◌⊎◌, List, Option, None, Some, IfNone, refl, sym, ◌∙◌, ap, subst, inl, inr, arith}
+use Rattle.std.proofs.Common.{◌≡◌, ◌≢◌, ℕ, Bool, true, false, ◌==◌, ◌≤◌, ◌⊎◌, List, Option, None, Some, IfNone, refl, sym, ◌∙◌, ap, subst, inl, inr, arith}
 use Rattle.std.specs.Prelude.{is_some}
 use Rattle.std.proofs.lemmas.Bool.{ne_eqb}
 use Rattle.std.specs.FinSet as set
 use Rattle.md_graph.specs.declared.TheConstants.{NAMES}
-use Rattle.md_graph.specs.Sets.{NameSet, Has}
+use Rattle.md_graph.specs.Sets.{Has}
 use Rattle.md_graph.specs.PlainGraph.{PlainGraph, IsGraph, adjacent, with_vertex}
 use Rattle.md_graph.proofs.GraphLemmas.{IsGraph-with_vertex, adjacent-with_vertex, adjacent-with_edge, adjacent-with_edges, adjacent-without_edge, adjacent-without_vertex}
 use Rattle.md_graph.proofs.SetLemmas.{clash, same_name, of_insert, of_remove, remove_gone}
@@ -13,7 +13,7 @@ use Rattle.md_bar_tree.specs.declared.Bar.{Bar}
 use Rattle.md_bar_tree.specs.declared.BarKind.{BarKind}
 use Rattle.md_bar_tree.specs.declared.BarKind.TheVariants as kinds
 use Rattle.md_bar_tree.specs.declared.Class.{Class}
-use Rattle.md_bar_tree.specs.Bars.{IsInducedCycle, AreTwoEdges, Bars, IsBarOfKind, IsBar}
+use Rattle.md_bar_tree.specs.Bars.{IsInducedCycle, AreTwoEdges, Bars, IsBarOfKind}
 use Rattle.md_bar_tree.specs.Crossing.{IsNameOf}
 use Rattle.md_script.specs.declared.edit.Edit.{Edit}
 use Rattle.md_script.specs.declared.edit.Edit.TheVariants.{AddEdge, DelEdge, AddVertex, DelVertex}

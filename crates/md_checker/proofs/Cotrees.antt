@@ -1,5 +1,5 @@
 -- Whether a tree that is read is that of a graph which is a cograph, or of a class.
-use Rattle.std.proofs.Common.{◌≡◌, ◌↔◌, ℕ, Bool, true, false, ◌||◌, eqb, eq-eqb, List, [], ◌∷◌, ◌++◌, Option, None, Some, Result, Ok, Err, IfOk, IfNone, IsTrue, refl, sym, ap, subst, inl, inr}
+use Rattle.std.proofs.Common.{◌≡◌, ◌↔◌, ℕ, Bool, true, false, Option, None, Some, Result, Ok, Err, IfOk, IfNone, IsTrue, refl}
 use Rattle.std.specs.Prelude.{IfSome, is_some}
 use Rattle.md_graph.specs.declared.Memory.{Memory}
 use Rattle.md_graph.specs.Adjacency.{IsAdjacency}
@@ -10,21 +10,13 @@ use Rattle.md_modules.proofs.Turns.{graph_adjacency}
 use Rattle.md_bar_tree.specs.declared.Class.{Class}
 use Rattle.md_bar_tree.specs.declared.Bar.{Bar}
 use Rattle.md_bar_tree.specs.Bars.{IsBar, HasBar}
-use Rattle.md_text.proofs.Lists.{In, in_left, in_right}
-use Rattle.md_tree.specs.Spellings.{letter}
-use Rattle.md_tree.specs.TreeTexts.{pairs_text, row_text, tree_text}
-use Rattle.md_tree.specs.Trees.{PlainTree, leaf, node, PlainTrees, no_tree, one_more}
-use Rattle.md_tree.specs.StrongTrees.{IsTree, IsTreeOf}
-use Rattle.md_tree.specs.WellFormed.{HasNoPrimeNode, HaveNoPrimeNode}
+use Rattle.md_tree.specs.Trees.{PlainTree}
+use Rattle.md_tree.specs.StrongTrees.{IsTree}
 use Rattle.md_tree.specs.NoPrimes.{HasNoPrime}
 use Rattle.md_report.proofs.ByTrees.{cograph_by_tree}
 use Rattle.md_report.specs.Cographs.{IsCograph}
-use Rattle.md_report.specs.declared.line.SessionMode.{SessionMode}
 use Rattle.md_report.specs.Classes.{IsAllowedIn}
-use Rattle.md_report.specs.ItemLines.{IsAllowed}
-use Rattle.md_checker.specs.States.{IsStateText}
 use Rattle.md_report.proofs.AllowedGraphs.{allowed_cograph}
-use Rattle.std.specs.List.{list_any}
 
 -- ---- a tree that is read
 

@@ -1,5 +1,5 @@
 -- A graph as a comparison with the text of a tree sees it.
-use Rattle.std.proofs.Common.{◌≡◌, ℕ, ◌≤◌, Bool, true, Some, min, max, List, [], get_or, refl, sym, ◌∙◌, ap, ap₂, subst, true≢false, arith}
+use Rattle.std.proofs.Common.{◌≡◌, ℕ, ◌≤◌, Bool, true, Some, min, max, List, get_or, refl, sym, ◌∙◌, ap₂, subst, true≢false, arith}
 use Rattle.std.specs.Cmp.{both_ways}
 use Rattle.md_graph.specs.PlainGraph.{PlainGraph, IsGraph, adjacent}
 use Rattle.md_graph.specs.Sets.{Has}
@@ -8,13 +8,12 @@ use Rattle.md_modules.proofs.Modules.{undirected}
 use Rattle.md_modules.proofs.Turns.{graph_adjacency}
 use Rattle.md_tree.specs.declared.Kind.{Kind}
 use Rattle.md_tree.specs.declared.Kind.TheVariants.{Parallel, Series, Prime}
-use Rattle.md_tree.specs.declared.Pair.{Pair}
 use Rattle.md_tree.specs.Held.{Ascends}
-use Rattle.md_tree.specs.Spellings.{is_prime, graph_kinds, graph_pairs, graph_spelling}
+use Rattle.md_tree.specs.Spellings.{is_prime, graph_kinds, graph_pairs}
 use Rattle.md_tree.specs.StrongTrees.{IsTreeOf}
 use Rattle.md_tree.specs.TreeGraph.{lists_pair}
 use Rattle.md_tree.specs.TreeTexts.{tree_text}
-use Rattle.md_tree.specs.Trees.{PlainTree, PlainTrees, names}
+use Rattle.md_tree.specs.Trees.{PlainTree, PlainTrees}
 use Rattle.md_tree.specs.WellFormed.{IsWellFormed}
 use Rattle.md_tree.proofs.Graph.{of_lists, to_lists}
 use Rattle.md_tree.proofs.Spelled.{graph_pairs_law}

@@ -1,16 +1,10 @@
 -- The pairs of names that stand for the children of a prime node.
-use Rattle.std.proofs.Common.{◌≡◌, ◌≢◌, ℕ, suc, ◌+◌, ◌<◌, ◌≤◌, Bool, true, false, cond, List, [], ◌∷◌, ◌++◌, length, get_or, drop, Option, Some, None, IfSome, append_assoc, append-nil, refl, sym, ◌∙◌, ap, ap₂, subst, arith}
-use Rattle.std.proofs.lemmas.List.{drop_more, drop_all}
-use Rattle.md_text.specs.declared.piece.Piece.{Piece}
-use Rattle.md_text.specs.Numbers.{decimal}
-use Rattle.md_text.specs.Pieces.{text_at, texts_at}
+use Rattle.std.proofs.Common.{◌≡◌, ◌≢◌, ℕ, ◌+◌, ◌<◌, ◌≤◌, Bool, true, List, [], length, get_or, Option, Some, None, IfSome, sym, subst, arith}
 use Rattle.md_text.proofs.Lists.{In, to_pairs, of_contains}
 use Rattle.md_tree.specs.Held.{MayListIf}
 use Rattle.md_tree.specs.Spellings.{PairRules, ArePairRules, IsPairBeforeBy}
-use Rattle.md_tree.specs.TreeTexts.{pairs_text_by}
-use Rattle.md_tree.proofs.Texts.{pair_spelled}
-use Rattle.md_outline.specs.HeadPairs.{near_pairs, pairs_from, head_pairs, near_heads, SpellPositions}
-use Rattle.md_outline.proofs.HeadPairs.{first_text, near_none, pairs_within, pairs_later, in_listed}
+use Rattle.md_outline.specs.HeadPairs.{head_pairs}
+use Rattle.md_outline.proofs.HeadPairs.{pairs_within, pairs_later, in_listed}
 
 pub if_some : {A : Type 0} {P Q : A → Type 0} (r : Option A) → ((x : A) → P x → Q x) → IfSome r P → IfSome r Q
 if_some (Some x) to h = to x h

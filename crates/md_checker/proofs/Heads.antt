@@ -1,5 +1,5 @@
 -- The heads of the children of a node: each is the least name of its child.
-use Rattle.std.proofs.Common.{◌≡◌, sym, subst, inl, inr}
+use Rattle.std.proofs.Common.{sym, subst, inl, inr}
 use Rattle.md_graph.specs.Sets.{Has}
 use Rattle.md_tree.specs.Trees.{PlainTree, PlainTrees, no_tree, one_more, names, EachNodeBelow}
 use Rattle.md_tree.specs.WellFormed.{IsCanonicalNode}

@@ -1,10 +1,7 @@
 -- Lines that are judged for items: each builder makes of what a test told what comes of the line.
-use Rattle.std.proofs.Common.{◌≡◌, ◌↔◌, ◌≤◌, ℕ, ◌+◌, Bool, true, false, IsTrue, List, [], ◌∷◌, length, slice_get, Option, None, Some, Result, Ok, Err, IfOk, refl, sym, ◌∙◌, ap, subst, inl, inr, arith}
+use Rattle.std.proofs.Common.{◌≡◌, ◌↔◌, ℕ, ◌+◌, Bool, true, false, IsTrue, List, [], ◌∷◌, length, slice_get, Option, None, Some, Result, Ok, Err, IfOk, refl, sym, ◌∙◌, ap, subst, inl, inr}
 use Rattle.std.specs.Prelude.{IfSome, is_some, ⊤}
-use Rattle.std.specs.List.{All}
-use Rattle.md_graph.specs.declared.TheConstants.{NAMES}
-use Rattle.md_graph.specs.NameSet.{AllBelow}
-use Rattle.md_graph.specs.PlainGraph.{PlainGraph, IsGraph}
+use Rattle.md_graph.specs.PlainGraph.{PlainGraph}
 use Rattle.md_graph.proofs.SetLemmas.{clash}
 use Rattle.md_modules.specs.declared.induced_paths.P4.{P4}
 use Rattle.md_bar_tree.specs.declared.Bar.{Bar}
@@ -12,16 +9,16 @@ use Rattle.md_script.specs.declared.edit.Edit as script
 use Rattle.md_script.specs.declared.edit.EditReason.{EditReason}
 use Rattle.md_script.specs.declared.item.Item.{Item}
 use Rattle.md_script.specs.declared.item.Item.TheVariants.{One, Undo, Group}
-use Rattle.md_script.specs.Edit.{HasNamesBelow, reason_of, after}
+use Rattle.md_script.specs.Edit.{reason_of, after}
 use Rattle.md_script.specs.Pasts.{taken_back, MayBack, AnyGraph, HasApplied, TakesBack}
 use Rattle.md_script.specs.Histories.{HistoryFits}
-use Rattle.md_script.proofs.GroupLemmas.{GoesBack, kept_goes_back, one_goes_back, back_weaker, back_kept}
+use Rattle.md_script.proofs.GroupLemmas.{GoesBack, one_goes_back, back_weaker, back_kept}
 use Rattle.md_report.specs.declared.line.SessionMode.{SessionMode}
 use Rattle.md_report.specs.Cographs.{IsCograph, IsP4Of}
 use Rattle.md_report.specs.Lines.{PlainLine, refused, refused_bar, group_refused, group_refused_bar}
 use Rattle.md_report.specs.Sessions.{is_applied, led_to}
-use Rattle.md_report.specs.ItemLines.{IsAllowed, IsBarred, IsDoneLine, AnswersItem, IsGroupLine}
-use Rattle.md_report.specs.Steps.{state_of, ItemStep}
+use Rattle.md_report.specs.ItemLines.{IsAllowed, IsBarred, IsDoneLine, AnswersItem}
+use Rattle.md_report.specs.Steps.{state_of}
 use Rattle.md_report.proofs.Groups.{whole_line, stopped_line, barred_line}
 use Rattle.md_report.proofs.ItemLines.{IsEditLine, edit_line, done_tells}
 use Rattle.md_report.proofs.Stepping.{refused_step, led_step, undone_step, all_graph}

@@ -1,5 +1,5 @@
 -- The text of a tree whose nodes are as a mode of sessions asks for: the graph may be a state.
-use Rattle.std.proofs.Common.{◌≡◌, ◌≢◌, ℕ, zero, suc, ◌+◌, ◌<◌, Bool, true, false, ◌||◌, ◌&&◌, List, [], ◌∷◌, ◌++◌, length, get_or, map, Option, Some, None, sym, ◌∙◌, ap, subst, inl, inr, refl, arith}
+use Rattle.std.proofs.Common.{◌≡◌, ◌≢◌, ℕ, suc, ◌+◌, ◌<◌, Bool, true, false, ◌||◌, ◌&&◌, List, [], ◌∷◌, ◌++◌, length, get_or, map, Option, Some, None, sym, ◌∙◌, ap, inl, inr, refl, arith}
 use Rattle.std.specs.Prelude.{is_some, IsSome}
 use Rattle.std.proofs.lemmas.Bool.{cases_eq}
 use Rattle.md_graph.specs.PlainGraph.{PlainGraph, IsGraph, adjacent}
@@ -7,11 +7,9 @@ use Rattle.md_graph.proofs.SetLemmas.{clash}
 use Rattle.md_modules.proofs.Turns.{graph_adjacency}
 use Rattle.md_bar_tree.specs.Inner.{IsInnerTree, AreLeaves, HasOneInner, IsNarrow}
 use Rattle.md_bar_tree.proofs.BarLaw.{no_bar_if_few_inner_proof}
-use Rattle.md_tree.specs.declared.Kind.{Kind}
 use Rattle.md_tree.specs.declared.Kind.TheVariants.{Prime}
 use Rattle.md_tree.specs.Spellings.{graph_kinds, graph_pairs}
 use Rattle.md_tree.specs.StrongTrees.{IsTreeOf}
-use Rattle.md_tree.specs.TreeTexts.{tree_text}
 use Rattle.md_tree.specs.Trees.{PlainTreeOf, PlainTreesOf, PlainTree, leaf, node, no_tree, one_more, row, EachNode, EachNodeBelow}
 use Rattle.md_report.specs.declared.line.SessionMode.{SessionMode}
 use Rattle.md_report.specs.declared.line.SessionMode.TheVariants.{Edit, Cograph, Quiet, Of}

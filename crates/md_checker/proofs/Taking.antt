@@ -1,5 +1,5 @@
 -- Lines that are taken by their texts alone: they tell a tree or an orientation.
-use Rattle.std.proofs.Common.{◌≡◌, ◌⊎◌, ℕ, ◌+◌, ◌≤◌, Bool, true, IsTrue, List, [], ◌∷◌, ◌++◌, length, drop, Some, None, Result, Ok, IfOk, codes, refl, sym, ◌∙◌, ap, subst, inl, inr, length-drop, arith}
+use Rattle.std.proofs.Common.{◌≡◌, ◌⊎◌, ℕ, ◌+◌, ◌≤◌, Bool, true, IsTrue, List, [], ◌∷◌, ◌++◌, length, drop, Some, Result, Ok, IfOk, codes, refl, sym, ◌∙◌, ap, subst, inl, inr, length-drop, arith}
 use Rattle.std.specs.Prelude.{slice_get}
 use Rattle.std.proofs.lemmas.List.{nil_from_length}
 use Rattle.md_graph.specs.PlainGraph.{PlainGraph, adjacent}

@@ -14,7 +14,7 @@ use Rattle.md_text.proofs.Lists.{In, to_contains}
 use Rattle.md_text.specs.Fronts.{IsNumberSplit}
 use Rattle.md_tree.specs.declared.builder.Opened.{Opened}
 use Rattle.md_tree.specs.Heads.{head_at}
-use Rattle.md_tree.specs.Held.{AreKept, IsDue, IsLeast, AreLeast, AscendsIf, IsMinimum, MayHave, HasOthersIf, MayListIf}
+use Rattle.md_tree.specs.Held.{AreKept, IsDue, AreLeast, AscendsIf, IsMinimum, MayHave, HasOthersIf, MayListIf}
 use Rattle.md_tree.specs.Spellings.{KindRules, PairRules, spelling, IsSpelling}
 use Rattle.md_tree.specs.TreeGraph.{position_of}
 use Rattle.md_tree.specs.TreeTexts.{pairs_text_by}

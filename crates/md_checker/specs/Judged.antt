@@ -1,6 +1,6 @@
 -- What comes of a line for an item of a session, and of the edits of a group.
 -- Source: this project's own format of reports.
-use Rattle.std.specs.Prelude.{◌≡◌, ℕ, Bool, true, false, List, [], ◌∷◌, length, slice_get, None, Some}
+use Rattle.std.specs.Prelude.{◌≡◌, ℕ, Bool, true, false, List, ◌∷◌, length, slice_get, None, Some}
 use Rattle.md_graph.specs.PlainGraph.{PlainGraph}
 use Rattle.md_script.specs.declared.edit.Edit as script
 use Rattle.md_script.specs.declared.item.Item.{Item}

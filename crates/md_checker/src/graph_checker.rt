@@ -95,7 +95,8 @@ impl<'a> GraphChecker<'a> {
     }
 
     // Whether the line may come; it is then taken, and else nothing changes. Condition: the
-    // line's tree is well-formed.
+    // line's tree is well-formed. Never inlined, as above.
+    #[inline(never)]
     pub(crate) fn feed(&mut self, alloc: Global, line: &ReportLine<'_>) -> Result<bool, Memory>
         requires { HasWellFormedTree (plain_report_line line.now) }
         ensures may { IfOk result (λ taken.

@@ -168,7 +168,8 @@ impl<const W: usize> SessionChecker<W> {
     }
 
     // Whether the line may come; it is then taken, and else nothing changes. Condition: the line's
-    // tree is well-formed.
+    // tree is well-formed. Never inlined, as above.
+    #[inline(never)]
     pub(crate) fn feed(&mut self, alloc: Global, line: &ReportLine<'_>) -> Result<bool, Memory>
         requires { HasWellFormedTree (plain_report_line line.now) }
         ensures may { IfOk result (λ taken.

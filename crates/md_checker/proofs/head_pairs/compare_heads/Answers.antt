@@ -1,4 +1,4 @@
-use Rattle.std.proofs.Common.{◌≡◌, ◌++◌, ◌+◌, ◌<◌, ◌*◌, ◌∙◌, take, length, get_or, refl, rules, arith}
+use Rattle.std.proofs.Common.{◌++◌, ◌<◌, ◌*◌, ◌∙◌, take, get_or, refl, rules, arith}
 use Rattle.std.proofs.lemmas.Result.{on_ok_weaker}
 use Rattle.std.proofs.lemmas.List.Elements.{All-from_get_or}
 use Rattle.md_graph.specs.NameSet.{ascending_from}

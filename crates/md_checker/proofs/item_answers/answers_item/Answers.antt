@@ -1,6 +1,5 @@
-use Rattle.std.proofs.Common.{◌*◌, IfOk, sym, subst, rules}
+use Rattle.std.proofs.Common.{◌*◌, IfOk, sym, subst}
 use Rattle.md_script.specs.declared.item.Item.{Item}
-use Rattle.md_script.specs.Items.{HasItemNamesBelow}
 use Rattle.md_checker.specs.ReportLines.{plain_report_line}
 use Rattle.md_checker.specs.Judged.{IsJudged}
 use Rattle.md_checker.proofs.item_answers.answers_item.Goals as goal

@@ -1,4 +1,4 @@
-use Rattle.std.proofs.Common.{true, cond, [], sym, ◌∙◌, ap, subst, rules}
+use Rattle.std.proofs.Common.{cond, [], sym, ◌∙◌, ap, subst, rules}
 use Rattle.md_graph.proofs.SetLemmas.{clash}
 use Rattle.md_tree.proofs.Stacking.{if_ok}
 use Rattle.md_checker.specs.FitTests.{AreJoinedBy}

@@ -1,4 +1,4 @@
-use Rattle.std.proofs.Common.{◌++◌, eqb-true, eq-eqb, ◌∙◌, ap}
+use Rattle.std.proofs.Common.{eqb-true, eq-eqb}
 use Rattle.std.proofs.lemmas.Slice.Eq.{strip_prefix_is}
 use Rattle.md_tree.proofs.Stacking.{if_ok}
 use Rattle.md_checker.proofs.StateTexts.{state_told}

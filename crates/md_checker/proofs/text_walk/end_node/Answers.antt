@@ -1,11 +1,9 @@
-use Rattle.std.proofs.Common.{rules, true, ◌<◌, ◌≤◌, ◌*◌, drop, length, get_or, sym, ◌∙◌, ap, subst, arith, length-drop}
+use Rattle.std.proofs.Common.{rules, true, ◌<◌, ◌≤◌, ◌*◌, drop, length, sym, ◌∙◌, ap, subst, arith, length-drop}
 use Rattle.std.proofs.lemmas.List.{take_rest}
 use Rattle.std.specs.Prelude.{IsTrue}
-use Rattle.md_tree.specs.Held.{AscendsIf}
 use Rattle.md_tree.proofs.Numerals.{end_shorter}
 use Rattle.md_tree.proofs.Spelled.{is_spelling}
-use Rattle.md_checker.specs.TextFits.{AreLive, IsReadBy}
-use Rattle.md_checker.specs.TextViews.{StandForChildren}
+use Rattle.md_checker.specs.TextFits.{IsReadBy}
 use Rattle.md_checker.proofs.TextWalk.{few_heads, first_within, inside_heads, inside_live, inside_roots, read_end}
 use Rattle.md_checker.proofs.text_walk.end_node.Goals as goal
 

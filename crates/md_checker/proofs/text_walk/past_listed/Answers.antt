@@ -1,4 +1,4 @@
-use Rattle.std.proofs.Common.{true, cond, [], length, sym, ◌∙◌, subst}
+use Rattle.std.proofs.Common.{cond, [], length, sym, ◌∙◌, subst}
 use Rattle.md_tree.specs.Held.{MayListIf}
 use Rattle.md_tree.proofs.Stacking.{if_ok}
 use Rattle.md_outline.specs.HeadPairs.{head_pairs}

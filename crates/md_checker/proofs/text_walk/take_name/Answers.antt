@@ -1,4 +1,4 @@
-use Rattle.std.proofs.Common.{sym, ◌∙◌, ap, arith}
+use Rattle.std.proofs.Common.{sym, ◌∙◌, ap}
 use Rattle.std.specs.FinSet.{contains}
 use Rattle.md_text.proofs.FrontLemmas.{number_shorter}
 use Rattle.md_tree.proofs.Spelled.{is_spelling}

@@ -1,4 +1,4 @@
-use Rattle.std.proofs.Common.{sym, ◌∙◌, ap, subst, rules}
+use Rattle.std.proofs.Common.{sym, ◌∙◌, ap, subst}
 use Rattle.md_report.specs.Laws.{IsSound}
 use Rattle.md_report.specs.Lines.{line_text}
 use Rattle.md_checker.specs.ReportLines.{plain_report_line, HasWellFormedTree}

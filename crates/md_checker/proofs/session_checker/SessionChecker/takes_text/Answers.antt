@@ -1,4 +1,4 @@
-use Rattle.std.proofs.Common.{rules, ◌*◌, ◌≤◌, ◌+◌, ◌≡◌, [], ◌∷◌, true, Some, length, drop, sym, ◌∙◌, ap, subst, arith}
+use Rattle.std.proofs.Common.{rules, ◌*◌, ◌≤◌, ◌+◌, ◌≡◌, [], ◌∷◌, true, length, drop, sym, ◌∙◌, ap, subst, arith}
 use Rattle.std.proofs.lemmas.Bool.Decides.{nat_tests}
 use Rattle.md_script.specs.Items.{HasItemNamesBelow}
 use Rattle.md_script.specs.Histories.{graphs_before}
