@@ -84,15 +84,6 @@ module _ {P : Type 0} {r : PairRules P} (law : ArePairRules r) where
       ∙ append_assoc before (mstart ++ text_at pieces x) (texts_at pieces start left ++ rest)
       ∙ ap (λ l. before ++ l) (first_text e v low pieces start is more mark mstart first_is j x left ws places cut)
 
-  -- the same where pairs came before
-  pub row_more : (e : ℕ → ℕ → Bool) (v low j : ℕ) (ws : List ℕ) (pieces : List Piece) (start : List ℕ) (mark : ℕ) (before after : List ℕ) (more : List P) →
-      start ≡ 44 ∷ (decimal low ++ r.between ∷ []) → mark ≡ 44 → SpellPositions pieces j ws → after ≡ before ++ texts_at pieces start (near_heads e v ws) →
-      after ++ pairs_text_by r mark more ≡ before ++ pairs_text_by r mark (near_pairs r e v low j ws ++ more)
-  row_more e v low j ws pieces start mark before after more is comma places put =
-      subst (λ m. after ++ pairs_text_by r m more ≡ before ++ pairs_text_by r m (near_pairs r e v low j ws ++ more)) (sym comma)
-      (ap (λ l. l ++ pairs_text_by r 44 more) put ∙ append_assoc before (texts_at pieces start (near_heads e v ws)) (pairs_text_by r 44 more)
-      ∙ ap (λ l. before ++ l) (near_text e v low pieces start is more j ws places))
-
   -- the same of a name without pairs
   pub row_empty : (e : ℕ → ℕ → Bool) (v low j : ℕ) (ws : List ℕ) (before : List ℕ) (mark : ℕ) (more : List P) → near_heads e v ws ≡ [] →
       before ++ pairs_text_by r mark more ≡ before ++ pairs_text_by r mark (near_pairs r e v low j ws ++ more)

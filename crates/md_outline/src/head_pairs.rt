@@ -58,12 +58,15 @@ fn pair_room(places: &[Piece], heads: &[u32]) -> usize {
 fn count_pairs<const W: usize>(graph: &GraphOf<W>, heads: &[u32], all: &Set<W>) -> usize
     requires { (i : ℕ) → i < length heads.now → get_or heads.now i 0 < 64 * W }
 {
-    if graph.vertices().is_subset(all) {
-        return graph.edge_count() as usize;
-    }
+    let whole = graph.vertices().is_subset(all);
     let mut ends: usize = 0;
     for head in heads {
-        let count = graph.row(*head).and(all).count();
+        let row = graph.row(*head);
+        let count = if whole {
+            row.count()
+        } else {
+            row.and(all).count()
+        };
         ends = ends.saturating_add(count as usize);
     }
     ends / 2
@@ -138,33 +141,6 @@ fn put_head<const W: usize>(
 // Never inlined, so that its loops have the registers to themselves.
 #[inline(never)]
 pub fn put_row<P: Paired, E, T: Target<E>, const W: usize>(
-    target: &mut T,
-    near: &Set<W>,
-    from: u32,
-    low: u32,
-    space: &mut PairSpace,
-) -> Result<(), E>
-    requires low { low < 10 ^ 5 }
-    requires there { All (λ v. v < length space.old.places) (ascending_from near.now from) }
-    ensures written { OnOk result ((e : ℕ → ℕ → Bool) (v j : ℕ) (ws : List ℕ) (more : List P)
-        → SpellPositions space.old.places j ws → ascending_from near.now from ≡ near_heads e v ws
-        → (T.bytes target.new ++ space.new.chunk) ++ pairs_text_by P.rules space.new.mark more
-        ≡ (T.bytes target.old ++ space.old.chunk)
-        ++ pairs_text_by P.rules space.old.mark (near_pairs P.rules e v low j ws ++ more)) }
-    ensures text { OnOk result (T.text target.new ≡ T.text target.old) }
-    ensures places { space.new.places ≡ space.old.places }
-{
-    if space.mark != b',' {
-        return put_first_row::<P, E, T, W>(target, near, from, low, space);
-    }
-    let start = piece_behind(b',', number_piece(low, P::between()));
-    let pieces = space.places.as_slice();
-    write_members(near, from, start, pieces, &mut space.chunk, target)
-}
-
-// The same where no pair of the node came before. Never inlined, since it is for one row of a node.
-#[inline(never)]
-fn put_first_row<P: Paired, E, T: Target<E>, const W: usize>(
     target: &mut T,
     near: &Set<W>,
     from: u32,

@@ -83,7 +83,6 @@ fn push_children_backward<'a>(
     ensures { IfOk result (λ _. map plain_at waiting.new.items
         ≡ map plain_at waiting.old.items ++ reverse (map plain (trees_of children.now))) }
 {
-    waiting.reserve(children.list.len())?;
     for i in (0..children.list.len()).rev() {
         waiting.push(&children.list[i])?;
     }

@@ -1,13 +1,11 @@
-use Rattle.std.proofs.Common.{◌≡◌, ◌<◌, ◌+◌, ◌-◌, ◌++◌, map, reverse, drop, length, ◌∙◌, ap, subst, arith}
+use Rattle.std.proofs.Common.{◌≡◌, ◌<◌, ◌+◌, ◌-◌, ◌++◌, map, reverse, drop, length, ◌∙◌, subst, arith}
 use Rattle.md_tree.specs.Plain.{plain, trees_of}
 use Rattle.md_tree.specs.Parts.{plain_at}
 use Rattle.md_outline.proofs.TreeOutlines.{back_begin, back_more}
 use Rattle.md_outline.proofs.outline_parts.push_children_backward.Goals as goal
 
 pub loop-i-init : goal.loop-i-init
-loop-i-init c =
-    ap (map plain_at) c.reserve.ensures.items
-    ∙ back_begin (map plain_at c.args.waiting.now.items) (trees_of c.args.children.now) c.len-i.result (c.len-i.ensures ∙ c.args.children.now.list.ok.0)
+loop-i-init c = back_begin _ _ _ (c.len-i.ensures ∙ c.args.children.now.list.ok.0)
 
 pub loop-i-preserved : goal.loop-i-preserved
 loop-i-preserved c =
