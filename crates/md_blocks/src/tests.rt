@@ -1,13 +1,12 @@
 //! The texts of members in two words, some of which stand below the first name.
 
 use super::*;
-use md_graph::{Memory, Set};
+use md_graph::Set;
 use md_text::{Chunk, digits_piece, piece_behind};
-use std::alloc::Global;
-use std::process::Abort;
 use std::test::Fail;
 
-fn check_members(rt: &impl Abort, alloc: Global) -> Result<(), Memory> {
+// Gathers the texts of the members from the second on before a target.
+fn put_members<E, T: Target<E>>(chunk: &mut Chunk, target: &mut T) -> Result<(), E> {
     let set: Set<2> = Set::from_list(&[2, 3, 5, 7, 11, 13, 63, 64, 127]);
     let _members = set.members();
     let mut pieces = [digits_piece(0); 128];
@@ -15,11 +14,16 @@ fn check_members(rt: &impl Abort, alloc: Global) -> Result<(), Memory> {
     pieces[63] = digits_piece(12345);
     pieces[127] = digits_piece(9);
     let start = piece_behind(b'-', digits_piece(4));
-    let mut text = Vec::new(alloc);
+    write_members(&set, 3, start, &pieces, chunk, target)?;
+    target.take_chunk(chunk)
+}
+
+#[test]
+fn writes_members(rt: HostRuntime) -> Result<(), Fail> {
+    let mut text = Vec::new(rt.alloc());
     let mut chunk = Chunk::new();
-    write_members(&set, 3, start, &pieces, &mut chunk, &mut text)?;
-    chunk.flush(&mut text)?;
-    assert_eq!(rt;
+    assert!(&rt; put_members(&mut chunk, &mut text).is_ok());
+    assert_eq!(&rt;
         text.as_slice(),
         b"-40-455-40-40-40-412345-40-49".as_slice()
     );
@@ -27,7 +31,13 @@ fn check_members(rt: &impl Abort, alloc: Global) -> Result<(), Memory> {
 }
 
 #[test]
-fn writes_members(rt: HostRuntime) -> Result<(), Fail> {
-    assert!(&rt; check_members(&rt, rt.alloc()).is_ok());
+fn compares_members(rt: HostRuntime) -> Result<(), Fail> {
+    let mut chunk = Chunk::new();
+    let mut same = Compared::new(b"-40-455-40-40-40-412345-40-49,");
+    assert!(&rt; put_members(&mut chunk, &mut same).is_ok());
+    assert_eq!(&rt; same.same, 29);
+    let mut chunk = Chunk::new();
+    let mut other = Compared::new(b"-40-455-40-40-40-412345-40-48");
+    assert!(&rt; put_members(&mut chunk, &mut other).is_err());
     Ok(())
 }
