@@ -9,7 +9,7 @@ ghost use Rattle.md_script.specs.declared.item.Item.{Item};
 ghost use Rattle.md_script.specs.declared.item.Item.TheVariants.{One, Undo, Group};
 ghost use Rattle.md_script.specs.Edit.{HasNamesBelow, reason_of, after};
 ghost use Rattle.md_script.specs.Items.{HasItemNamesBelow};
-ghost use Rattle.md_script.specs.Pasts.{Led};
+ghost use Rattle.md_script.specs.Pasts.{Led, MayBack, AnyGraph, taken_back};
 ghost use Rattle.md_script.specs.Histories.{HistoryFits};
 ghost use Rattle.md_report.specs.Lines.{applied, applied_quiet, refused, refused_bar, group_refused, group_refused_bar, nothing_to_undo};
 ghost use Rattle.md_report.specs.Cographs.{IsCograph};
@@ -407,11 +407,7 @@ fn answers_undo<const W: usize>(
     if history.items() == 0 {
         return Ok(is_nothing_to_undo(line));
     }
-    let mut redo = HistoryOf::new(alloc)?;
-    redo.reserve(alloc, 1)?;
-    redo.open_item();
-    redo.reserve(alloc, history.last_len())?;
-    back_through(graph, history, &mut redo);
+    let mut redo = go_back(alloc, graph, history)?;
     let fit = is_done_line(alloc, mode, graph, line);
     take_item_back(graph, &mut redo);
     if is_true(&fit) {
@@ -419,6 +415,31 @@ fn answers_undo<const W: usize>(
         return fit;
     }
     fit
+}
+
+// Takes the last item back; what comes has one item, which gives the graph again once it is taken
+// back. The history stays; for want of memory so does the graph. Conditions: an item stands, and
+// its edits can be taken back, the last one first.
+pub(crate) fn go_back<const W: usize>(
+    alloc: Global,
+    graph: &mut GraphOf<W>,
+    history: &HistoryOf<W>,
+) -> Result<HistoryOf<W>, Memory>
+    requires { (last : List script.Edit) × (others : List (List script.Edit))
+        × (history.now.items ≡ last ∷ others) × MayBack (64 * W) AnyGraph graph.old last }
+    ensures back { IfOk result (λ redo. (last : List script.Edit)
+        (others : List (List script.Edit)) → history.now.items ≡ last ∷ others →
+        graph.new ≡ taken_back graph.old last) }
+    ensures again { IfOk result (λ redo. (edits : List script.Edit) × (redo.items ≡ edits ∷ []) ×
+        MayBack (64 * W) AnyGraph graph.new edits × (taken_back graph.new edits ≡ graph.old)) }
+    ensures stays { IsErr result → graph.new ≡ graph.old }
+{
+    let mut redo = HistoryOf::new(alloc)?;
+    redo.reserve(alloc, 1)?;
+    redo.open_item();
+    redo.reserve(alloc, history.last_len())?;
+    back_through(graph, history, &mut redo);
+    Ok(redo)
 }
 
 // Whether the line tells that there is no item to undo.

@@ -11,13 +11,13 @@ ghost use Rattle.md_report.specs.declared.line.SessionMode.TheVariants.{Quiet};
 ghost use Rattle.md_report.specs.ItemLines.{IsAllowed};
 ghost use Rattle.md_checker.specs.Judged.{IsJudgedByText};
 
-use crate::item_answers::{Tried, try_edits};
+use crate::item_answers::{Tried, go_back, try_edits};
 use crate::judgements::is_true;
 use crate::state_text::is_word_and_state;
 use md_graph::{GraphOf, Memory};
 use md_report::SessionMode;
 use md_script::{
-    Edit, Edits, HistoryOf, Item, apply, back_through, inverse, reason, take_back, take_item_back,
+    Edit, Edits, HistoryOf, Item, apply, inverse, reason, take_back, take_item_back,
 };
 use std::alloc::Global;
 
@@ -146,11 +146,7 @@ fn undo_by_text<const W: usize>(
     if history.items() == 0 {
         return Ok(false);
     }
-    let mut redo = HistoryOf::new(alloc)?;
-    redo.reserve(alloc, 1)?;
-    redo.open_item();
-    redo.reserve(alloc, history.last_len())?;
-    back_through(graph, history, &mut redo);
+    let mut redo = go_back(alloc, graph, history)?;
     let fit = is_word_and_state(alloc, mode, graph, b"ok ", text);
     take_item_back(graph, &mut redo);
     if is_true(&fit) {

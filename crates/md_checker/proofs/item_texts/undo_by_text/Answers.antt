@@ -9,18 +9,15 @@ use Rattle.md_checker.proofs.Judged.{any_back, if_true, if_false, judged_undo}
 use Rattle.md_checker.proofs.Taking.{text_done, text_told}
 use Rattle.md_checker.proofs.item_texts.undo_by_text.Goals as goal
 
-pub back_through-requires : goal.back_through-requires
-back_through-requires g c =
+pub go_back-requires : goal.go_back-requires
+go_back-requires g c =
     let last = last_item (64 * g.row.W) (IsAllowed c.args.mode) c.args.graph.now c.args.history.now.items c.items.result c.items.ensures c.if-items-eq0.false c.requires.fits in
-    let len = c.last_len.ensures last.0 last.1 last.2 in
-    let room = c.in_ok-reserve-2.ensures.room in
-    let one : c.reserve-2.new.self.items ≡ [] ∷ [] = c.reserve-2.ensures.items ∙ c.open_item.ensures.items ∙ ap (λ (l : List (List Edit)). [] ∷ l) (c.reserve.ensures.items ∙ c.in_ok-redo.ensures) in
-    (search rules, (search rules, ((last.0, last.1, last.2, any_back (64 * g.row.W) (IsAllowed c.args.mode) c.args.graph.now last.0 last.3, omega arith), one)))
+    (search rules, (last.0, last.1, last.2, any_back (64 * g.row.W) (IsAllowed c.args.mode) c.args.graph.now last.0 last.3))
 
 pub take_item_back-requires-then-is_true : goal.take_item_back-requires-then-is_true
 take_item_back-requires-then-is_true g c =
     let last = last_item (64 * g.row.W) (IsAllowed c.args.mode) c.args.graph.now c.args.history.now.items c.items.result c.items.ensures c.if-items-eq0.false c.requires.fits in
-    let again = c.back_through.ensures.again in
+    let again = c.in_ok-redo.ensures.again in
     let same : c.take_item_back.new.graph ≡ c.args.graph.now = c.take_item_back.ensures.graph again.0 [] again.1 ∙ again.3 in
     let may = any_back (64 * g.row.W) (IsAllowed c.args.mode) c.args.graph.now last.0 last.3 in
     (search rules, (search rules, (last.0, last.1, last.2, subst (λ (k : PlainGraph). MayBack (64 * g.row.W) AnyGraph k last.0) (sym same) may)))
@@ -28,10 +25,10 @@ take_item_back-requires-then-is_true g c =
 pub returns-then-is_true-clause-judged : goal.returns-then-is_true-clause-judged
 returns-then-is_true-clause-judged g c =
     let last = last_item (64 * g.row.W) (IsAllowed c.args.mode) c.args.graph.now c.args.history.now.items c.items.result c.items.ensures c.if-items-eq0.false c.requires.fits in
-    let again = c.back_through.ensures.again in
+    let again = c.in_ok-redo.ensures.again in
     let same : c.take_item_back.new.graph ≡ c.args.graph.now = c.take_item_back.ensures.graph again.0 [] again.1 ∙ again.3 in
-    let led = c.back_through.new.graph in
-    let back = c.back_through.ensures.graph last.0 last.1 last.2 in
+    let led = c.go_back.new.graph in
+    let back = c.in_ok-redo.ensures.back last.0 last.1 last.2 in
     let s = text_told c.is_word_and_state-fit.result c.args.mode led c.args.text.now (c.is_true.ensures.0 c.if-is_true.true) c.is_word_and_state-fit.ensures in
     if_true c.is_word_and_state-fit.result c.is_true.result _ c.is_true.ensures c.if-is_true.true (
       applied (Some s.tree),
@@ -42,10 +39,10 @@ returns-then-is_true-clause-judged g c =
 
 pub returns-clause-judged : goal.returns-clause-judged
 returns-clause-judged g c =
-    let again = c.back_through.ensures.again in
+    let again = c.in_ok-redo.ensures.again in
     let same : c.take_item_back.new.graph ≡ c.args.graph.now = c.take_item_back.ensures.graph again.0 [] again.1 ∙ again.3 in
     if_false c.is_word_and_state-fit.result c.is_true.result _ c.is_true.ensures c.if-is_true.false (λ lacks. (same, refl))
 
 pub returns-clause-stays : goal.returns-clause-stays
 returns-clause-stays g c = λ fails.
-    let again = c.back_through.ensures.again in c.take_item_back.ensures.graph again.0 [] again.1 ∙ again.3
+    let again = c.in_ok-redo.ensures.again in c.take_item_back.ensures.graph again.0 [] again.1 ∙ again.3
