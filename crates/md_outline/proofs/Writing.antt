@@ -162,6 +162,27 @@ module _ (e : ℕ → ℕ → Bool) (s : NameSet) where
                   ∙ append_assoc text (letter l ∷ []) ((row_text 40 cs ++ (pairs_text 59 ps ++ 41 ∷ [])) ++ text_left due.nodes) ∙ text_is;
             }
 
+  -- ---- a name among the children of a node
+
+  pub name_next : (whole text next : List ℕ) (others : List (OutlinePart Kind)) (outer : List Begun) (o p : Begun) (held kept : List ℕ) (v : ℕ) → 0 < o.left → p ≡ record o { left = o.left - 1; mark = 44 } →
+      next ≡ (text ++ o.mark ∷ []) ++ decimal v → kept ≡ held ++ v ∷ [] → IsOnWay e s whole text (Name v ∷ others) (outer ++ o ∷ []) held → IsOnWay e s whole next others (outer ++ p ∷ []) kept
+  name_next whole text next others outer o p held kept v some less put one way =
+      let marked = text ++ o.mark ∷ [] in
+      name_put whole marked next others (outer ++ p ∷ []) held v kept (due_next whole text marked (Name v) others (outer ++ o ∷ []) (outer ++ p ∷ []) held ready is (inr way)) put one
+    where
+      ready : HasChildLeft (outer ++ o ∷ [])
+      ready os q f = subst (λ x. 0 < x.left) (same_from_push outer os o q f).1 some
+
+      is : IsMarkPut text (outer ++ o ∷ []) (text ++ o.mark ∷ []) (outer ++ p ∷ [])
+      is = record {
+        none = λ f. absurd (no_snoc outer o (sym f));
+        some = λ os q f.
+            let same = same_from_push outer os o q f in (
+              ap (λ x. text ++ x.mark ∷ []) same.1,
+              ap₂ (λ l (x : Begun). l ++ x ∷ []) same.0 (less ∙ ap {A = Begun} (λ x. record x { left = x.left - 1; mark = 44 }) same.1),
+            );
+      }
+
   -- ---- the end of a node
 
   -- what the end of the innermost node finds on the stacks

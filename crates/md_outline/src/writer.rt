@@ -1,12 +1,14 @@
 //! Writes the text of a tree from its outline.
-ghost use Rattle.std.specs.Prelude.{◌≡◌, ◌+◌, ◌-◌, ◌<◌, ◌≤◌, ℕ, Bool, List, [], ◌∷◌, ◌++◌, length, drop, take, Option, IfSome, IfNone, OnOk};
+ghost use Rattle.std.specs.Prelude.{◌≡◌, ◌+◌, ◌-◌, ◌<◌, ◌≤◌, ℕ, Bool, List, [], ◌∷◌, ◌++◌, length, drop, take, Option, IfSome, IfNone, IfOk, OnOk};
 ghost use Rattle.md_graph.specs.PlainGraph.{adjacent};
 ghost use Rattle.md_graph.specs.Sets.{NameSet};
+ghost use Rattle.md_text.specs.Numbers.{decimal};
 ghost use Rattle.md_tree.specs.declared.Kind.{Kind};
 ghost use Rattle.md_tree.specs.StrongTrees.{IsTree};
 ghost use Rattle.md_tree.specs.Trees.{PlainTree, EachNode};
 ghost use Rattle.md_tree.specs.TreeTexts.{tree_text, text_of, pairs_text};
 ghost use Rattle.md_outline.specs.declared.outline.OutlinePart.{OutlinePart};
+ghost use Rattle.md_outline.specs.declared.outline.OutlinePart.TheVariants.{Name};
 ghost use Rattle.md_outline.specs.Outlines.{outline_of, outline_option};
 ghost use Rattle.md_outline.specs.NodeRows.{AreHeadsOf, IsNodeByRows, pairs_by_rows};
 ghost use Rattle.md_outline.specs.BegunNodes.{HasChildLeft, IsMarkPut, IsOnWay, MayGoOn};
@@ -15,9 +17,12 @@ use crate::OutlinePart;
 use crate::head_pairs::push_head_pairs;
 use crate::pair_space::PairSpace;
 use md_graph::{GraphOf, Memory};
-use md_text::push_number;
+use md_text::{push_decimal, push_number};
 use md_tree::{Kind, Lettered};
 use std::alloc::Global;
+
+// So many bytes have room for a name and the mark before it.
+const NAME_ROOM: usize = 21;
 
 /// What a writer of outlines needs beside the text. It serves many outlines, one after the other,
 /// and keeps its memory.
@@ -90,8 +95,10 @@ fn push_tree<const W: usize>(
 {
     space.begun.clear();
     space.heads.clear();
-    for part in parts {
-        push_part(text, *part, space)?;
+    let mut next = 0;
+    while next < parts.len() {
+        push_part(text, parts[next], space)?;
+        next = push_names(text, parts, next + 1, &mut space.begun, &mut space.heads)?;
         push_ends(text, graph, space)?;
     }
     Ok(())
@@ -126,6 +133,66 @@ fn push_part(
             })?;
         }
     }
+    Ok(())
+}
+
+// The names that come from a part on, as far as they are children of the innermost node that is
+// begun: all that a leaf costs is here. The part behind them comes back.
+fn push_names(
+    text: &mut Vec<u8>,
+    parts: &[OutlinePart<Kind>],
+    from: usize,
+    begun: &mut Vec<Begun>,
+    heads: &mut Vec<u32>,
+) -> Result<usize, Memory>
+    ensures written { IfOk result (λ next. (e : ℕ → ℕ → Bool) (s : NameSet) (whole : List ℕ)
+        → IsOnWay e s whole text.old.items (drop from parts.now) begun.old.items heads.old.items
+        → IsOnWay e s whole text.new.items (drop next parts.now) begun.new.items
+        heads.new.items) }
+    ensures on { IfOk result (λ next. from ≤ next) }
+{
+    let Some(mut node) = begun.pop() else {
+        return Ok(from);
+    };
+    heads.reserve(node.left as usize)?;
+    let mut next = from;
+    while let Some(name) = next_name(parts, next, node.left) {
+        push_name(text, node.mark, name)?;
+        heads.push_reserved(name);
+        node.left -= 1;
+        node.mark = b',';
+        next += 1;
+    }
+    begun.push(node)?;
+    Ok(next)
+}
+
+// The name that stands at a place of an outline, where a child is left.
+#[inline(always)]
+fn next_name(parts: &[OutlinePart<Kind>], at: usize, left: u32) -> Option<u32>
+    ensures left { IfSome result (λ name. 0 < left) }
+    ensures within { IfSome result (λ name. at < length parts.now) }
+    ensures name { IfSome result (λ name. drop at parts.now
+        ≡ Name name ∷ drop (at + 1) parts.now) }
+{
+    if left == 0 {
+        return None;
+    }
+    match parts.get(at) {
+        Some(OutlinePart::Name(name)) => Some(*name),
+        _ => None,
+    }
+}
+
+// A mark and a name behind it.
+#[tactic(auto, using(md_text::proofs::NumberLemmas::decimal_fits_20))]
+#[inline(always)]
+fn push_name(text: &mut Vec<u8>, mark: u8, name: u32) -> Result<(), Memory>
+    ensures { OnOk result (text.new.items ≡ (text.old.items ++ mark ∷ []) ++ decimal name) }
+{
+    text.reserve(NAME_ROOM)?;
+    text.push_reserved(mark);
+    push_decimal(text, u64::from(name));
     Ok(())
 }
 

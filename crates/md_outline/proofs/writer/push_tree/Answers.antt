@@ -6,8 +6,8 @@ use Rattle.md_outline.specs.BegunNodes.{MayGoOn}
 use Rattle.md_outline.proofs.Writing.{ready_none, may_begin, all_written}
 use Rattle.md_outline.proofs.writer.push_tree.Goals as goal
 
-pub loop-part-init : goal.loop-part-init
-loop-part-init g c = record {
+pub loop-next-init : goal.loop-next-init
+loop-next-init g c = record {
   ready = ready_none c.clear.new.self.items c.clear.ensures.items;
   written = λ t each are. may_begin (adjacent c.args.graph.now) c.args.graph.now.vertices c.args.text.now.items c.args.parts.now c.clear.new.self.items c.clear-2.new.self.items t c.clear.ensures.items c.clear-2.ensures.items each are;
 }
@@ -17,33 +17,30 @@ push_ends-requires g c =
     let e = adjacent c.args.graph.now in
     let s = c.args.graph.now.vertices in
     let whole = c.args.text.now.items ++ tree_text c.requires.0 in
-    let others = drop (c.loop-part.part-index + 1) c.args.parts.now in
-    let go = c.loop-part.invariant.written c.requires.0 c.requires.1 c.requires.2 in (
+    let go = c.loop-next.invariant.written c.requires.0 c.requires.1 c.requires.2 in (
       search rules,
       (
         whole,
-        others,
-        c.in_ok-push_part.ensures e s whole others
-            (subst (λ l. MayGoOn e s whole c.loop-part.text.items l c.loop-part.space.begun.items c.loop-part.space.heads.items) (drop_more c.args.parts.now c.loop-part.part-index _ c.loop-part-test.true) go),
+        drop c.in_ok-next.next c.args.parts.now,
+        c.in_ok-next.ensures.written e s whole (c.in_ok-push_part.ensures e s whole (drop (c.loop-next.next + 1) c.args.parts.now)
+            (subst (λ l. MayGoOn e s whole c.loop-next.text.items l c.loop-next.space.begun.items c.loop-next.space.heads.items) (drop_more c.args.parts.now c.loop-next.next _ (grind (arith, c.loop-next-test.true))) go)),
       ),
     )
 
-pub loop-part-preserved : goal.loop-part-preserved
-loop-part-preserved g c =
+pub loop-next-preserved : goal.loop-next-preserved
+loop-next-preserved g c =
     let e = adjacent c.args.graph.now in
     let s = c.args.graph.now.vertices in
-    let others = drop (c.loop-part.part-index + 1) c.args.parts.now in
     record {
       ready = c.in_ok-push_ends.ensures.ready;
       written = λ t each are.
           let whole = c.args.text.now.items ++ tree_text t in
-          inr (c.in_ok-push_ends.ensures.written whole others (c.in_ok-push_part.ensures e s whole others
-          (subst (λ l. MayGoOn e s whole c.loop-part.text.items l c.loop-part.space.begun.items c.loop-part.space.heads.items) (drop_more c.args.parts.now c.loop-part.part-index _ c.loop-part-test.true)
-          (c.loop-part.invariant.written t each are))));
+          inr (c.in_ok-push_ends.ensures.written whole (drop c.in_ok-next.next c.args.parts.now) (c.in_ok-next.ensures.written e s whole (c.in_ok-push_part.ensures e s whole (drop (c.loop-next.next + 1) c.args.parts.now)
+          (subst (λ l. MayGoOn e s whole c.loop-next.text.items l c.loop-next.space.begun.items c.loop-next.space.heads.items) (drop_more c.args.parts.now c.loop-next.next _ (grind (arith, c.loop-next-test.true))) (c.loop-next.invariant.written t each are)))));
     }
 
 pub returns : goal.returns
 returns g c t each are =
-    all_written (adjacent c.args.graph.now) c.args.graph.now.vertices (c.args.text.now.items ++ tree_text t) c.loop-part.text.items c.loop-part.space.begun.items c.loop-part.space.heads.items c.loop-part.invariant.ready
-    (subst (λ l. MayGoOn (adjacent c.args.graph.now) c.args.graph.now.vertices (c.args.text.now.items ++ tree_text t) c.loop-part.text.items l c.loop-part.space.begun.items c.loop-part.space.heads.items)
-    (drop_all c.loop-part.part-index c.args.parts.now (omega arith)) (c.loop-part.invariant.written t each are))
+    all_written (adjacent c.args.graph.now) c.args.graph.now.vertices (c.args.text.now.items ++ tree_text t) c.loop-next.text.items c.loop-next.space.begun.items c.loop-next.space.heads.items c.loop-next.invariant.ready
+    (subst (λ l. MayGoOn (adjacent c.args.graph.now) c.args.graph.now.vertices (c.args.text.now.items ++ tree_text t) c.loop-next.text.items l c.loop-next.space.begun.items c.loop-next.space.heads.items)
+    (drop_all c.loop-next.next c.args.parts.now (grind (arith, c.loop-next-test.false))) (c.loop-next.invariant.written t each are))
