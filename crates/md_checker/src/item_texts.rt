@@ -16,9 +16,7 @@ use crate::judgements::is_true;
 use crate::state_text::is_word_and_state;
 use md_graph::{GraphOf, Memory};
 use md_report::SessionMode;
-use md_script::{
-    Edit, Edits, HistoryOf, Item, apply, inverse, reason, take_back, take_item_back,
-};
+use md_script::{Edit, Edits, HistoryOf, Item, apply, inverse, reason, take_back, take_item_back};
 use std::alloc::Global;
 
 // Whether the text is that of a line that tells the tree of the graph after the item: graph and
