@@ -1,6 +1,5 @@
-use Rattle.std.proofs.Common.{◌≡◌, ◌*◌, List, [], ◌∷◌, Some, refl, sym, ◌∙◌, ap, subst, rules, arith}
+use Rattle.std.proofs.Common.{◌≡◌, ◌*◌, [], Some, refl, sym, ◌∙◌, ap, subst, rules}
 use Rattle.md_graph.specs.PlainGraph.{PlainGraph}
-use Rattle.md_script.specs.declared.edit.Edit.{Edit}
 use Rattle.md_script.specs.Pasts.{taken_back, MayBack, AnyGraph}
 use Rattle.md_report.specs.ItemLines.{IsAllowed}
 use Rattle.md_report.proofs.Stepping.{last_item}
@@ -12,7 +11,7 @@ use Rattle.md_checker.proofs.item_texts.undo_by_text.Goals as goal
 pub go_back-requires : goal.go_back-requires
 go_back-requires g c =
     let last = last_item (64 * g.row.W) (IsAllowed c.args.mode) c.args.graph.now c.args.history.now.items c.items.result c.items.ensures c.if-items-eq0.false c.requires.fits in
-    (search rules, (last.0, last.1, last.2, any_back (64 * g.row.W) (IsAllowed c.args.mode) c.args.graph.now last.0 last.3))
+    (search rules, (search rules, (last.0, last.1, last.2, any_back (64 * g.row.W) (IsAllowed c.args.mode) c.args.graph.now last.0 last.3)))
 
 pub take_item_back-requires-then-is_true : goal.take_item_back-requires-then-is_true
 take_item_back-requires-then-is_true g c =
