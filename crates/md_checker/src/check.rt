@@ -32,8 +32,8 @@ pub fn check_graphs(
     ensures faultless { IfOk result (λ _. graph_fault (limit_of_mode mode) from graph.now ≡ None) }
     ensures stops { IfErr result (IsStopAt (graph_fault (limit_of_mode mode) from graph.now)) }
 {
-    let checker = Checker::over_graphs(alloc, mode, from, graph)?;
-    Ok(judge(alloc, checker, report)?)
+    let mut checker = Checker::over_graphs(alloc, mode, from, graph)?;
+    Ok(judge(alloc, &mut checker, report)?)
 }
 
 /// Checks a report of a session of a mode on the one graph of a graph file, over a script; both are
@@ -55,6 +55,6 @@ pub fn check_session(
     ensures stops { IfErr result (IsStopAt
         (option_or (one_graph_fault from graph.now) (script_fault script.now))) }
 {
-    let checker = Checker::over_session(alloc, mode, from, graph, script)?;
-    Ok(judge(alloc, checker, report)?)
+    let mut checker = Checker::over_session(alloc, mode, from, graph, script)?;
+    Ok(judge(alloc, &mut checker, report)?)
 }

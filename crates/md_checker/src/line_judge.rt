@@ -54,16 +54,15 @@ pub trait LineJudge {
 
 /// The answer of a report, by its lines one after the other. Condition: wherever lines lead from
 /// the place of the judge, others lead on to the end. Errors: want of memory.
-pub fn judge<J: LineJudge + Drop>(
+pub fn judge<J: LineJudge>(
     alloc: Global,
-    line_judge: J,
+    line_judge: &mut J,
     report: &[u8],
 ) -> Result<CheckAnswer, Memory>
-    requires can_end { CanEnd J.may_come J.next J.last (J.place line_judge) }
+    requires can_end { CanEnd J.may_come J.next J.last (J.place line_judge.old) }
     ensures answer { IfOk result (IsCheckAnswerBy J.may_come J.next (fed_by J.line_text) J.last
-        (J.place line_judge) report.now) }
+        (J.place line_judge.old) report.now) }
 {
-    let mut line_judge = line_judge;
     let mut rest = report;
     let mut line: u64 = 1;
     while !rest.is_empty() {

@@ -25,6 +25,6 @@ pub fn check_directed(alloc: Global, graph: &[u8], report: &[u8]) -> Result<Chec
     if let Err(fault) = scan_directed(graph) {
         return Err(InputStop::BadInput(Fault::Graph6(fault)));
     }
-    let checker = DirectedChecker::new(alloc, DirectedLines::new(graph))?;
-    Ok(judge(alloc, checker, report)?)
+    let mut checker = DirectedChecker::new(alloc, DirectedLines::new(graph))?;
+    Ok(judge(alloc, &mut checker, report)?)
 }

@@ -10,7 +10,7 @@ returns-in_default g c =
     let q = j.place c.loop-rest.line_judge in
     record {
       answer =
-          rejected j.may_come j.next j.line_text j.last g.met.J.LineJudge.spells g.met.J.LineJudge.ends (j.place c.args.line_judge) q c.args.report.now c.loop-rest.rest.now c.loop-rest.line
+          rejected j.may_come j.next j.line_text j.last g.met.J.LineJudge.spells g.met.J.LineJudge.ends (j.place c.args.line_judge.now) q c.args.report.now c.loop-rest.rest.now c.loop-rest.line
           c.requires.can_end c.loop-rest.invariant.come
           (stuck_rest j.may_come j.line_text g.met.J.LineJudge.spells q c.loop-rest.rest.now c.in_default.ensures.none)
           (λ is_end. some_left c.loop-rest.rest.now (sym c.is_empty.ensures ∙ c.loop-rest-test.true));
@@ -22,7 +22,7 @@ returns-then-not-branch g c =
     let q = j.place c.loop-rest.line_judge in
     record {
       answer =
-          rejected j.may_come j.next j.line_text j.last g.met.J.LineJudge.spells g.met.J.LineJudge.ends (j.place c.args.line_judge) q c.args.report.now c.loop-rest.rest.now c.loop-rest.line
+          rejected j.may_come j.next j.line_text j.last g.met.J.LineJudge.spells g.met.J.LineJudge.ends (j.place c.args.line_judge.now) q c.args.report.now c.loop-rest.rest.now c.loop-rest.line
           c.requires.can_end c.loop-rest.invariant.come
           (stuck_line j.may_come j.line_text g.met.J.LineJudge.spells q c.loop-rest.rest.now c.in-Some.text.now c.in-Some.behind.now c.in-Some.ensures.lacks c.in-Some.ensures.whole
           (λ some. clash (c.in_ok-feed_text.ensures.may.1 some) c.if-not-branch.true))
@@ -34,7 +34,7 @@ loop-rest-preserved g c =
     let j = g.J.LineJudge in
     record {
       come =
-          came j.may_come j.next j.line_text (j.place c.args.line_judge) (j.place c.loop-rest.line_judge) (j.place c.feed_text.new.self) c.args.report.now c.loop-rest.rest.now c.in-Some.text.now c.in-Some.behind.now c.loop-rest.line
+          came j.may_come j.next j.line_text (j.place c.args.line_judge.now) (j.place c.loop-rest.line_judge) (j.place c.feed_text.new.self) c.args.report.now c.loop-rest.rest.now c.in-Some.text.now c.in-Some.behind.now c.loop-rest.line
           c.loop-rest.invariant.come c.in-Some.ensures.whole (c.in_ok-feed_text.ensures.next c.if-not-branch.false);
       room = omega (arith, c.in-Some.ensures.shorter, c.loop-rest.invariant.room);
     }
@@ -45,7 +45,7 @@ returns-then-not-complete g c =
     let q = j.place c.loop-rest.line_judge in
     record {
       answer =
-          rejected j.may_come j.next j.line_text j.last g.met.J.LineJudge.spells g.met.J.LineJudge.ends (j.place c.args.line_judge) q c.args.report.now c.loop-rest.rest.now c.loop-rest.line
+          rejected j.may_come j.next j.line_text j.last g.met.J.LineJudge.spells g.met.J.LineJudge.ends (j.place c.args.line_judge.now) q c.args.report.now c.loop-rest.rest.now c.loop-rest.line
           c.requires.can_end c.loop-rest.invariant.come
           (stuck_empty j.may_come j.line_text g.met.J.LineJudge.spells q c.loop-rest.rest.now (sym c.is_empty.ensures ∙ c.loop-rest-test.false))
           (λ is_end none. clash (c.complete.ensures.complete.1 is_end) c.if-not-complete.true);
@@ -56,6 +56,6 @@ returns g c =
     let j = g.J.LineJudge in
     record {
       answer =
-          accepted j.may_come j.next j.line_text j.last g.met.J.LineJudge.spells g.met.J.LineJudge.ends (j.place c.args.line_judge) (j.place c.loop-rest.line_judge) c.args.report.now c.loop-rest.rest.now c.loop-rest.line
+          accepted j.may_come j.next j.line_text j.last g.met.J.LineJudge.spells g.met.J.LineJudge.ends (j.place c.args.line_judge.now) (j.place c.loop-rest.line_judge) c.args.report.now c.loop-rest.rest.now c.loop-rest.line
           c.loop-rest.invariant.come (c.complete.ensures.complete.0 c.if-not-complete.false) (nothing_left c.loop-rest.rest.now (sym c.is_empty.ensures ∙ c.loop-rest-test.false));
     }
