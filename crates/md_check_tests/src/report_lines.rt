@@ -3,7 +3,7 @@ use super::certificates::arcs_of;
 use md_forcing::{Arc, Arcs, Chain};
 use md_graph::Memory;
 use md_modules::P4;
-use md_report::{Line, LineFault, Mode, Order, read_line, write_line};
+use md_report::{Line, LineFault, Mode, Order, read_line, write_applied, write_line, write_tree};
 use md_script::EditReason;
 use md_tree::{Tree, read_tree};
 use std::alloc::Global;
@@ -213,6 +213,17 @@ fn line_of_many_arcs(rt: HostRuntime) -> Result<(), Fail> {
         &Line::Oriented(Arcs::from_list(arcs)),
         &expected,
     )
+}
+
+#[test]
+fn lines_of_trees(rt: HostRuntime) -> Result<(), Fail> {
+    let alloc = rt.alloc();
+    let tree = read_tree(alloc, b"S(P(0,1),2)")?;
+    let first = write_tree(alloc, &tree)?;
+    assert!(rt; first.as_slice() == "t S(P(0,1),2)".as_bytes());
+    let applied = write_applied(alloc, &tree)?;
+    assert!(rt; applied.as_slice() == "ok S(P(0,1),2)".as_bytes());
+    Ok(())
 }
 
 static NO_LINES: [&str; 17] = [

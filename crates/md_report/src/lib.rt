@@ -18,4 +18,7 @@ pub use md_comparability::Order;
 pub use mode_words::{class_of_word, class_word, mode_of_word, mode_word};
 pub use pieces::{behind_space, names, split_number};
 pub use reader::{LineFault, read_line};
-pub use writer::{push_edit, push_names, push_tree_by_rows, write_line, write_session_head};
+pub use writer::{
+    push_edit, push_names, push_tree_by_rows, write_applied, write_line, write_session_head,
+    write_tree,
+};

@@ -110,6 +110,15 @@ fn session_word(mode: SessionMode) -> &'static str
     }
 }
 
+/// The text of the line of a tree, as of `Line::Tree`, without a line feed. Errors: want of memory.
+pub fn write_tree(alloc: Global, tree: &Option<Tree>) -> Result<Vec<u8>, Memory>
+    ensures { IfOk result (λ text. text.items ≡ line_text (lines.tree (plain_option tree.now))) }
+{
+    let mut text = Vec::with_capacity(alloc, SHORT)?;
+    push_tree(alloc, &mut text, tree)?;
+    Ok(text)
+}
+
 /// Appends the line of the tree of strong modules of a graph, as of `Line::Tree`, without a line
 /// feed: from the outline of the tree and the rows of the graph, with no tree and no list of pairs.
 /// Errors: want of memory.
@@ -127,6 +136,16 @@ pub fn push_tree_by_rows<const W: usize>(
 {
     text.extend_from_slice(b"t ")?;
     push_text_by_rows(text, parts, graph, space)
+}
+
+/// The text of the line that an edit was applied and left a graph with this tree, as of
+/// `Line::Applied`, without a line feed. Errors: want of memory.
+pub fn write_applied(alloc: Global, tree: &Option<Tree>) -> Result<Vec<u8>, Memory>
+    ensures { IfOk result (λ text. text.items ≡ line_text (lines.applied (plain_option tree.now))) }
+{
+    let mut text = Vec::with_capacity(alloc, SHORT)?;
+    push_applied(alloc, &mut text, tree)?;
+    Ok(text)
 }
 
 // Appends the line of a tree.

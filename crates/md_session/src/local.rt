@@ -1,11 +1,9 @@
 //! Sessions on any graph that keep their tree: an edit of an edge decomposes anew only the least
 //! strong module that holds both ends.
-ghost use Rattle.std.specs.Prelude.{◌≡◌, ◌*◌, ◌≤◌, Option, None, false, IfOk, IsErr};
+ghost use Rattle.std.specs.Prelude.{◌≡◌, ◌*◌, ◌≤◌, None, false, IfOk, IsErr};
 ghost use Rattle.md_graph.specs.PlainGraph.{adjacent};
 ghost use Rattle.md_tree.specs.StrongTrees.{IsTree};
 ghost use Rattle.md_tree.specs.Plain.{plain_option};
-ghost use Rattle.md_tree.specs.Trees.{PlainTree};
-ghost use Rattle.md_outline.specs.Outlines.{outline_option};
 ghost use Rattle.md_script.specs.Histories.{HistoryFits};
 ghost use Rattle.md_script.specs.Items.{HasItemNamesBelow, room_for};
 ghost use Rattle.md_report.specs.declared.line.SessionMode.TheVariants as modes;
@@ -18,10 +16,9 @@ ghost use Rattle.md_session.specs.LocalSteps.{IsLocalStep, TakesFew, line_of_ans
 use crate::local_items::{LocalAnswer, answer, copy_option, line};
 use md_decompose::decompose;
 use md_graph::{GraphOf, Memory, Steps, WORDS};
-use md_outline::{OutlinePart, tree_outline};
 use md_report::Line;
 use md_script::{HistoryOf, Item};
-use md_tree::{Kind, Tree};
+use md_tree::Tree;
 use std::alloc::Global;
 use std::marker::Model;
 use std::sync::ledger::Ledger;
@@ -75,27 +72,6 @@ impl<const W: usize> LocalSessionOf<W> {
         ensures { IsTree (adjacent self.now) self.now.vertices (plain_option result.now) }
     {
         &self.tree
-    }
-
-    /// The outline of that tree, without parts exactly where the graph has no vertices. Errors: want
-    /// of memory.
-    pub fn outline(&self, alloc: Global) -> Result<Vec<OutlinePart<Kind>>, Memory>
-        ensures outline { IfOk result (λ parts. (t : Option PlainTree)
-            × IsTree (adjacent self.now) self.now.vertices t
-            × (parts.items ≡ outline_option t)) }
-    {
-        let _vertices = self.graph.vertices();
-        match &self.tree {
-            Some(tree) => tree_outline(alloc, tree),
-            None => Ok(Vec::new(alloc)),
-        }
-    }
-
-    /// The graph.
-    pub fn graph(&self) -> &GraphOf<W>
-        ensures value { result.now ≡ self.now }
-    {
-        &self.graph
     }
 
     /// Answers an item with its line, as `GeneralSessionOf::apply_item` does; the line of an item

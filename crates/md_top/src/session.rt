@@ -23,14 +23,13 @@ ghost use Rattle.md_top.specs.Sinks.{sink_run, PutsLines};
 
 use crate::classes::put_class;
 use crate::cographs::put_cographs;
-use crate::put::{applied_text_by_rows, fed, put_report_line, put_text, tree_text_by_rows};
+use crate::put::{fed, put_report_line, put_text};
 use crate::stop::{PutStop, Stop, Verdict};
 use crate::undos::{forget_unreached, undos_behind};
 use md_graph::{GraphOf, Memory, Steps};
 use md_input::{Format, SessionInputs, session_inputs};
 use md_io::Sink;
-use md_outline::RowSpace;
-use md_report::{Line, SessionMode, write_line, write_session_head};
+use md_report::{Line, SessionMode, write_applied, write_line, write_session_head, write_tree};
 use md_script::{HistoryOf, Item, Script};
 use md_session::{LocalAnswer, LocalSessionOf};
 use std::alloc::Global;
@@ -128,7 +127,7 @@ fn put_states<const W: usize, O: Sink, L: Ledger>(
     ensures faults_never_fall { O.faults out.old ≤ O.faults out.new }
 {
     let session = LocalSessionOf::new(alloc, graph)?;
-    let text = first_text(alloc, &session, &mut RowSpace::new(alloc))?;
+    let text = first_text(alloc, &session)?;
     put_text(&text, out)?;
     put_items(alloc, session, script, steps, out)
 }
@@ -149,11 +148,10 @@ fn put_items<const W: usize, O: Sink, L: Ledger>(
 {
     let mut history = HistoryOf::new(alloc)?;
     let mut undos = script.undos();
-    let mut space = RowSpace::new(alloc);
     for i in 0..script.len() {
         let item = script.get(i);
         forget_unreached(&mut history, undos);
-        let text = item_text(alloc, &mut session, item, &mut history, &mut space, steps)?;
+        let text = item_text(alloc, &mut session, item, &mut history, steps)?;
         put_text(&text, out)?;
         undos = undos_behind(undos, item);
     }
@@ -161,17 +159,12 @@ fn put_items<const W: usize, O: Sink, L: Ledger>(
 }
 
 // The text of the line of the session's tree, with its line feed.
-fn first_text<const W: usize>(
-    alloc: Global,
-    session: &LocalSessionOf<W>,
-    space: &mut RowSpace,
-) -> Result<Vec<u8>, Memory>
+fn first_text<const W: usize>(alloc: Global, session: &LocalSessionOf<W>) -> Result<Vec<u8>, Memory>
     ensures { IfOk result (λ text. (t : Option PlainTree)
         × IsTree (adjacent session.now) session.now.vertices t
         × (text.items ≡ fed_line (lines.tree t))) }
 {
-    let parts = session.outline(alloc)?;
-    tree_text_by_rows(alloc, &parts, session.graph(), space)
+    fed(write_tree(alloc, session.kept())?)
 }
 
 // The text of the line of an item, which the session answers, with its line feed. Conditions: the
@@ -181,7 +174,6 @@ fn item_text<const W: usize, L: Ledger>(
     session: &mut LocalSessionOf<W>,
     item: &Item,
     history: &mut HistoryOf<W>,
-    space: &mut RowSpace,
     steps: &mut Steps<L>,
 ) -> Result<Vec<u8>, Memory>
     requires names { HasItemNamesBelow (64 * W) item.now }
@@ -192,7 +184,7 @@ fn item_text<const W: usize, L: Ledger>(
 {
     history.reserve(alloc, item.room())?;
     let answer = session.answer_item(alloc, item, history, steps)?;
-    answer_text(alloc, session, answer, space)
+    answer_text(alloc, session, answer)
 }
 
 // The text of the line of an answer, which has the session's tree where an item was applied, with
@@ -201,33 +193,18 @@ fn answer_text<const W: usize>(
     alloc: Global,
     session: &LocalSessionOf<W>,
     answer: LocalAnswer,
-    space: &mut RowSpace,
 ) -> Result<Vec<u8>, Memory>
     ensures { IfOk result (λ text. (t : Option PlainTree)
         × IsTree (adjacent session.now) session.now.vertices t
         × (text.items ≡ fed_line (line_of_answer answer t))) }
 {
-    let _kept = session.kept();
+    let kept = session.kept();
     match answer {
-        LocalAnswer::Applied => applied_text(alloc, session, space),
+        LocalAnswer::Applied => fed(write_applied(alloc, kept)?),
         LocalAnswer::Refused(reason) => fed(write_line(alloc, &Line::Refused(reason))?),
         LocalAnswer::GroupRefused(number, reason) => {
             fed(write_line(alloc, &Line::GroupRefused(number, reason))?)
         }
         LocalAnswer::NothingToUndo => fed(write_line(alloc, &Line::NothingToUndo)?),
     }
-}
-
-// The text of the line that an item was applied and left the session's tree, with its line feed.
-fn applied_text<const W: usize>(
-    alloc: Global,
-    session: &LocalSessionOf<W>,
-    space: &mut RowSpace,
-) -> Result<Vec<u8>, Memory>
-    ensures { IfOk result (λ text. (t : Option PlainTree)
-        × IsTree (adjacent session.now) session.now.vertices t
-        × (text.items ≡ fed_line (lines.applied t))) }
-{
-    let parts = session.outline(alloc)?;
-    applied_text_by_rows(alloc, &parts, session.graph(), space)
 }

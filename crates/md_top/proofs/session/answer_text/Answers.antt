@@ -1,19 +1,21 @@
 use Rattle.std.proofs.Common.{◌∙◌, sym, ap}
 use Rattle.md_tree.specs.Plain.{plain_option}
 use Rattle.md_tree.proofs.Stacking.{if_ok}
-use Rattle.md_report.specs.Lines.{fed_line, refused, group_refused, nothing_to_undo}
+use Rattle.md_report.specs.Lines.{fed_line, applied, refused, group_refused, nothing_to_undo}
 use Rattle.md_session.specs.LocalSteps.{line_of_answer}
 use Rattle.md_top.proofs.session.answer_text.Goals as goal
 
-pub returns-in-Applied : goal.returns-in-Applied
-returns-in-Applied g c =
-    if_ok c.applied_text.result (λ text told. (told.0, told.1, told.2 ∙ ap (λ a. fed_line (line_of_answer a told.0)) (sym c.in-Applied.is))) c.applied_text.ensures
+pub returns-in_ok-write_applied-in-Applied : goal.returns-in_ok-write_applied-in-Applied
+returns-in_ok-write_applied-in-Applied g c =
+    let t = plain_option c.kept-kept.result.now in
+    if_ok c.fed.result (λ whole is. (t, c.kept-kept.ensures, is ∙ ap (λ a. fed_line (line_of_answer a t)) (sym c.in-Applied.is)))
+    (c.fed.ensures (applied t) c.in_ok-write_applied-in-Applied.ensures)
 
 pub returns-in_ok-write_line-in-Refused : goal.returns-in_ok-write_line-in-Refused
 returns-in_ok-write_line-in-Refused g c =
     let t = plain_option c.kept-kept.result.now in
-    if_ok c.fed.result (λ whole is. (t, c.kept-kept.ensures, is ∙ ap (λ a. fed_line (line_of_answer a t)) (sym c.in-Refused.is)))
-    (c.fed.ensures (refused c.in-Refused.reason) c.in_ok-write_line-in-Refused.ensures)
+    if_ok c.fed-in-Refused.result (λ whole is. (t, c.kept-kept.ensures, is ∙ ap (λ a. fed_line (line_of_answer a t)) (sym c.in-Refused.is)))
+    (c.fed-in-Refused.ensures (refused c.in-Refused.reason) c.in_ok-write_line-in-Refused.ensures)
 
 pub returns-in_ok-write_line-in-GroupRefused : goal.returns-in_ok-write_line-in-GroupRefused
 returns-in_ok-write_line-in-GroupRefused g c =

@@ -7,7 +7,7 @@ use Rattle.md_report.specs.declared.line.SessionMode.TheVariants as modes
 use Rattle.md_report.specs.Places.{at_state, at_items, after_end}
 use Rattle.md_report.specs.Sessions.{first_state}
 use Rattle.md_top.specs.Sinks.{sink_run, PutsLines}
-use Rattle.md_top.proofs.Lines.{puts_behind, stopped_behind, stopped_before, no_lines}
+use Rattle.md_top.proofs.Lines.{puts_behind, stopped_behind, no_lines}
 use Rattle.md_top.proofs.session.put_states.Goals as goal
 
 pub returns-clause-puts : goal.returns-clause-puts
@@ -20,11 +20,6 @@ returns-clause-puts g c =
     (subst (λ (s : PlainGraph). PutsLines (at_items modes.Edit (first_state s) c.args.script.now) after_end c.put_items.result
     (sink_run g.O.Sink c.put_text.new.out c.put_items.new.out))
     c.in_ok-session.ensures c.put_items.ensures.puts)
-
-pub returns-in_err-text-clause-puts : goal.returns-in_err-text-clause-puts
-returns-in_err-text-clause-puts g c =
-    stopped_behind _ (at_state modes.Edit c.args.graph c.args.script.now) _ _ _ _ _ _ _ _ _ c.from_residual-in_err-text.ensures.1
-    (no_lines _ _) (let still : g.O.Sink.faults c.args.out.now ≤ g.O.Sink.faults c.args.out.now = omega arith in still) (stopped_before _ _)
 
 pub returns-in_err-put_text-clause-puts : goal.returns-in_err-put_text-clause-puts
 returns-in_err-put_text-clause-puts g c =
