@@ -111,7 +111,8 @@ fn twelve_bytes(body: &[u8], at: usize) -> [u8; 12]
 
 /// 64 bits of the body from bit `place` on, the first in the lowest place; behind the body they
 /// are 0. Condition: each byte is 63 with six bits added.
-#[inline]
+// Inlined, since a reader asks for each column of each block of a graph.
+#[inline(always)]
 pub fn bits_from(body: &[u8], place: usize) -> u64
     requires { AreGroups body.now }
     ensures { (k : ℕ) → k < 64 → bit_at result k ≡ bit body.now (place + k) }
