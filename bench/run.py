@@ -106,6 +106,29 @@ def half_graph(n):
     return rows_of(n, [(i, n // 2 + j) for i in range(n // 2) for j in range(i, n // 2)])
 
 
+def nested_half(n):
+    """A half graph in which a nested half graph stands on either half, and so on; on at most four vertices a path."""
+    rows = [0] * n
+
+    def build(low, size):
+        if size <= 4:
+            for v in range(low + 1, low + size):
+                rows[v] |= 1 << v - 1
+            return
+        half = size // 2
+        for j in range(half):
+            rows[low + half + j] |= (1 << j + 1) - 1 << low
+        build(low, half)
+        build(low + half, size - half)
+
+    build(0, n)
+    return rows
+
+
+def complement(rows):
+    return [(1 << v) - 1 & ~row for v, row in enumerate(rows)]
+
+
 def nested_p4(n, names):
     """A P4 whose end is replaced by such a graph again, as long as there are names; from the inmost vertex on they are taken
     in the order of the list. The number of vertices is one more than a multiple of three."""
@@ -300,6 +323,8 @@ INPUTS = {
     "path4096.g6": lambda: g6(path(4096)),
     "cycle4096.g6": lambda: g6(shuffled_cycle(4096, 8)),
     "half4096.g6": lambda: g6(half_graph(4096)),
+    "nested_half4096.g6": lambda: g6(nested_half(4096)),
+    "conested_half4096.g6": lambda: g6(complement(nested_half(4096))),
     "threshold4096.g6": lambda: g6(threshold(4096)),
     "cograph4096.g6": lambda: g6(cograph(4096, 5)),
     "dense256.g6": lambda: g6(dense(256, 6)),
@@ -346,6 +371,8 @@ CASES = [
     ("tree", "g6", "path4096.g6"),
     ("tree", "g6", "cycle4096.g6"),
     ("tree", "g6", "half4096.g6"),
+    ("tree", "g6", "nested_half4096.g6"),
+    ("tree", "g6", "conested_half4096.g6"),
     ("tree", "g6", "threshold4096.g6"),
     ("tree", "g6", "small5000.g6"),
     ("edit", "g6", "dense256.g6", "script300.txt"),
@@ -372,6 +399,8 @@ CASES = [
     ("trivial", "g6", "vertex.g6", "none.txt"),
     ("threshold", "g6", "vertex.g6", "none.txt"),
 ] + [("dtree", name) for name in INPUTS if name.endswith(".d6")]
+# The commands that another program isn't asked for.
+OURS_ALONE = ("trivial", "threshold", "dtree")
 
 
 def measure(binary, words, where):
@@ -612,7 +641,9 @@ def main():
             name = " ".join(words)
             seconds, count, peak = measure(binary, words, where)
             line = "| `%s` | %.3f | %s | %.1f |" % (name, seconds, millions(count), peak)
-            if peer:
+            if peer and words[0] in OURS_ALONE:
+                line += " | | |"
+            elif peer:
                 _, other, its_peak = measure(peer, words, where)
                 line += " %s | %.2f | %.1f |" % (millions(other), count / max(other, 1), its_peak)
             print(line, flush=True)
