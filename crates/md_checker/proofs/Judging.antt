@@ -9,15 +9,8 @@ use Rattle.md_report.specs.Protocols.{fed_by, LeadBy, IsReportBy, CanEnd, IsLast
 use Rattle.md_report.proofs.Behind.{nothing_left}
 use Rattle.md_report.proofs.Protocols.{lead_append, lead_split}
 use Rattle.md_checker.specs.declared.answer.CheckAnswer.TheVariants.{Rejected}
-use Rattle.md_checker.specs.Answers.{SharesFirstBy, IsCheckAnswerBy}
+use Rattle.md_checker.specs.Answers.{SharesFirstBy, IsCheckAnswerBy, HaveComeBy}
 use Rattle.md_report.proofs.FirstLines.{first_line, line_before, no_line}
-
--- lines have led from p to q, and their text is the report's but for the rest
-pub record HaveCome {P L : Type 0} (MayCome : P → L → Type 0) (next : P → L → P) (text : L → List ℕ) (p : P) (bytes : List ℕ) (q : P) (rest : List ℕ) (number : ℕ) : Type 0 where
-  pub lines : List L
-  pub leads : LeadBy MayCome next p lines q
-  pub text_is : bytes ≡ flat_map (fed_by text) lines ++ rest
-  pub counted : number ≡ suc (length lines)
 
 -- no line that may come at q stands next
 abbrev pub IsStuck : {P L : Type 0} → (P → L → Type 0) → (L → List ℕ) → P → List ℕ → Type 0
@@ -52,7 +45,7 @@ module _ {P L : Type 0} (MayCome : P → L → Type 0) (next : P → L → P) (t
   at_end p q (l ∷ lines) more end leads = at_end (next p l) q lines more end.1 leads.1
 
   -- where no line stands next, and it isn't the end, the line behind those that have come is told
-  pub rejected : (p q : P) (bytes rest : List ℕ) (number : ℕ) → CanEnd MayCome next last p → HaveCome MayCome next text p bytes q rest number → IsStuck MayCome text q rest → (q ≡ last → rest ≢ []) →
+  pub rejected : (p q : P) (bytes rest : List ℕ) (number : ℕ) → CanEnd MayCome next last p → HaveComeBy MayCome next (fed_by text) p bytes q rest number → IsStuck MayCome text q rest → (q ≡ last → rest ≢ []) →
       IsCheckAnswerBy MayCome next (fed_by text) last p bytes (Rejected number)
   rejected p q bytes rest number can come stuck left =
       let on : (lines : List L) × LeadBy MayCome next q lines last = can come.lines q come.leads in (
@@ -95,7 +88,7 @@ module _ {P L : Type 0} (MayCome : P → L → Type 0) (next : P → L → P) (t
           ]
 
   -- where nothing is left at the end, the report is whole
-  pub accepted : (p q : P) (bytes rest : List ℕ) (number : ℕ) → HaveCome MayCome next text p bytes q rest number → q ≡ last → rest ≡ [] → IsReportBy MayCome next (fed_by text) last p bytes
+  pub accepted : (p q : P) (bytes rest : List ℕ) (number : ℕ) → HaveComeBy MayCome next (fed_by text) p bytes q rest number → q ≡ last → rest ≡ [] → IsReportBy MayCome next (fed_by text) last p bytes
   accepted p q bytes rest number come is_end none = record {
     lines = come.lines;
     leads = subst (λ z. LeadBy MayCome next p come.lines z) is_end come.leads;
@@ -104,8 +97,8 @@ module _ {P L : Type 0} (MayCome : P → L → Type 0) (next : P → L → P) (t
 
 module _ {P L : Type 0} (MayCome : P → L → Type 0) (next : P → L → P) (text : L → List ℕ) where
   -- one more line has come
-  pub came : (p q z : P) (bytes rest front behind : List ℕ) (number : ℕ) → HaveCome MayCome next text p bytes q rest number → rest ≡ front ++ 10 ∷ behind →
-      ((line : L) × MayCome q line × (front ≡ text line) × (z ≡ next q line)) → HaveCome MayCome next text p bytes z behind (number + 1)
+  pub came : (p q z : P) (bytes rest front behind : List ℕ) (number : ℕ) → HaveComeBy MayCome next (fed_by text) p bytes q rest number → rest ≡ front ++ 10 ∷ behind →
+      ((line : L) × MayCome q line × (front ≡ text line) × (z ≡ next q line)) → HaveComeBy MayCome next (fed_by text) p bytes z behind (number + 1)
   came p q z bytes rest front behind number so cut one = record {
     lines = so.lines ++ one.0 ∷ [];
     leads = lead_append MayCome next p q z so.lines (one.0 ∷ []) so.leads (one.1, sym one.3);

@@ -29,6 +29,18 @@ IsCheckAnswerBy MayCome next fed last p bytes Accepted = IsReportBy MayCome next
 IsCheckAnswerBy MayCome next fed last p bytes (Rejected line) =
     (¬ IsReportBy MayCome next fed last p bytes) × (n : ℕ) × (line ≡ suc n) × IsMostSharedBy MayCome next fed last p bytes n
 
+-- lines have led from p to q, their text is that of the bytes but for the rest, and the line behind them has the number
+pub record HaveComeBy {P L : Type 0} (MayCome : P → L → Type 0) (next : P → L → P) (fed : L → List ℕ) (p : P) (bytes : List ℕ) (q : P) (rest : List ℕ) (number : ℕ) : Type 0 where
+  pub lines : List L
+  pub leads : LeadBy MayCome next p lines q
+  pub text_is : bytes ≡ flat_map fed lines ++ rest
+  pub counted : number ≡ suc (length lines)
+
+-- q is the place behind the lines that were taken: all of them, or those before the line that is told
+abbrev pub IsPlaceBehindBy : {P L : Type 0} → (P → L → Type 0) → (P → L → P) → (L → List ℕ) → P → P → List ℕ → CheckAnswer → P → Type 0
+IsPlaceBehindBy MayCome next fed last p bytes Accepted q = q ≡ last
+IsPlaceBehindBy MayCome next fed last p bytes (Rejected line) q = (rest : List ℕ) × HaveComeBy MayCome next fed p bytes q rest line
+
 -- the same of the reports over graphs and of sessions
 abbrev pub SharesFirst : Place → List ℕ → ℕ → Type 0
 SharesFirst p bytes n = SharesFirstBy MayCome next_place fed_line after_end p bytes n

@@ -2,7 +2,7 @@
 ghost use Rattle.std.specs.Prelude.{◌≡◌, ◌↔◌, ℕ, ◌<◌, List, [], ◌∷◌, ◌++◌, length, IfOk, IfSome, IfNone, IsErr, IsTrue};
 ghost use Rattle.md_report.specs.Cuts.{LacksByte};
 ghost use Rattle.md_report.specs.Protocols.{fed_by, CanEnd, IsLast, IsLineSpelling};
-ghost use Rattle.md_checker.specs.Answers.{IsCheckAnswerBy};
+ghost use Rattle.md_checker.specs.Answers.{IsCheckAnswerBy, IsPlaceBehindBy};
 
 use crate::answer::CheckAnswer;
 use md_graph::Memory;
@@ -52,8 +52,9 @@ pub trait LineJudge {
     ghost spells: { IsLineSpelling line_text };
 }
 
-/// The answer of a report, by its lines one after the other. Condition: wherever lines lead from
-/// the place of the judge, others lead on to the end. Errors: want of memory.
+/// The answer of a report, by its lines one after the other. The judge then stands behind those
+/// that it took. Condition: wherever lines lead from the place of the judge, others lead on to the
+/// end. Errors: want of memory.
 pub fn judge<J: LineJudge>(
     alloc: Global,
     line_judge: &mut J,
@@ -62,6 +63,8 @@ pub fn judge<J: LineJudge>(
     requires can_end { CanEnd J.may_come J.next J.last (J.place line_judge.old) }
     ensures answer { IfOk result (IsCheckAnswerBy J.may_come J.next (fed_by J.line_text) J.last
         (J.place line_judge.old) report.now) }
+    ensures stands { IfOk result (λ answer. IsPlaceBehindBy J.may_come J.next (fed_by J.line_text)
+        J.last (J.place line_judge.old) report.now answer (J.place line_judge.new)) }
 {
     let mut rest = report;
     let mut line: u64 = 1;

@@ -1,7 +1,6 @@
 -- One turn of the program that puts trees in order.
-use Rattle.std.proofs.Common.{◌≡◌, ℕ, ◌+◌, ◌-◌, ◌<◌, ◌≤◌, List, [], ◌∷◌, ◌++◌, length, get_or, take, drop, map, reverse, Vec, Global, Some, refl, sym, ◌∙◌, ap, subst, arith, length-append, length-drop, append_assoc, inl, inr}
-use Rattle.std.proofs.lemmas.Bool.{cases_lt}
-use Rattle.std.proofs.lemmas.List.{get_or_default, map-append, take-map, drop-map, length-map, get_or-map, take_all, drop_all, take-append-le, length-take, append-nil, append_cancel_left, reverse-append, reverse-reverse, length-reverse, get_or-append_right, get_or-reverse}
+use Rattle.std.proofs.Common.{◌≡◌, ℕ, ◌+◌, ◌-◌, ◌<◌, ◌≤◌, List, [], ◌∷◌, ◌++◌, length, get_or, take, drop, map, reverse, Vec, Global, Some, refl, sym, ◌∙◌, ap, subst, arith, length-append, length-drop, append_assoc}
+use Rattle.std.proofs.lemmas.List.{map-append, take-map, drop-map, length-map, get_or-map, take_all, drop_all, take-append-le, length-take, append-nil, append_cancel_left, reverse-append, reverse-reverse, length-reverse, get_or-append_right, get_or-reverse}
 use Rattle.std.proofs.lemmas.List.Sorted.{IsPermutation-map, length_permutation}
 use Rattle.std.specs.List.Sorted.{IsPermutation, IsNonDecreasingBy}
 use Rattle.md_lists.specs.declared.kinds.PlaceKind.TheVariants.{Leaf as LeafKind}
@@ -24,25 +23,6 @@ pub trees_more : (now more : List (TreeOf Kind Pair)) (seen : List Keyed) (k : K
 trees_more now more seen k so push =
     ap (map plain) push ∙ map-append plain now (k.tree ∷ []) ∙ ap (λ l. l ++ plain k.tree ∷ []) so
     ∙ sym (ap (map tree_of) (map-append plain_keyed seen (k ∷ [])) ∙ map-append tree_of (map plain_keyed seen) (plain_keyed k ∷ []))
-
--- ---- one place more of a list that ascends so far
-
-pub rising_on : {A : Type 0} (key : A → ℕ) (xs : List A) (i : ℕ) (other : A) → 1 ≤ i → i < length xs → ((a b : ℕ) (d : A) → a ≤ b → b < i → key (get_or xs a d) ≤ key (get_or xs b d)) →
-    key (get_or xs (i - 1) other) ≤ key (get_or xs i other) → (a b : ℕ) (d : A) → a ≤ b → b < i + 1 → key (get_or xs a d) ≤ key (get_or xs b d)
-rising_on key xs i other some inside rising step a b d low near =
-    elim (cases_lt b i) [
-      | inl below ↦ rising a b d low below
-      | inr past ↦ elim (cases_lt a i) [
-        | inl under ↦
-            let last : b ≡ i = omega arith in
-            let before : get_or xs (i - 1) other ≡ get_or xs (i - 1) d = get_or_default xs (i - 1) other d (omega arith) in
-            let here : get_or xs i other ≡ get_or xs b d = get_or_default xs i other d inside ∙ ap (λ n. get_or xs n d) (sym last) in
-            let more : key (get_or xs (i - 1) d) ≤ key (get_or xs b d) = subst (λ x. key x ≤ key (get_or xs b d)) before (subst (λ y. key (get_or xs (i - 1) other) ≤ key y) here step) in
-            let less : key (get_or xs a d) ≤ key (get_or xs (i - 1) d) = rising a (i - 1) d (omega arith) (omega arith) in
-            omega arith
-        | inr above ↦ let same : a ≡ b = omega arith in subst (λ n. key (get_or xs a d) ≤ key (get_or xs n d)) same (omega arith)
-      ]
-    ]
 
 -- ---- trees on the stack, the last ones from the greatest least name down
 

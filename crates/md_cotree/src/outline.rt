@@ -1,6 +1,5 @@
 //! The outline of the tree of a cotree, made on a stack of entries without a tree.
-ghost use Rattle.std.specs.Prelude.{◌≡◌, ◌<◌, ◌≤◌, ◌^◌, ℕ, List, ◌++◌, length, IfOk, IsTrue};
-ghost use Rattle.std.specs.List.Sorted.{IsPermutation, IsNonDecreasingBy};
+ghost use Rattle.std.specs.Prelude.{◌≡◌, ◌<◌, ◌≤◌, ◌^◌, ℕ, List, ◌++◌, length, IfOk};
 ghost use Rattle.md_graph.specs.PlainGraph.{PlainGraph, adjacent};
 ghost use Rattle.md_lists.specs.Links.{IsLive, AreLinks};
 ghost use Rattle.md_outline.specs.Outlines.{outline_option};
@@ -144,30 +143,8 @@ fn arrange_entries(stack: &mut Vec<Entry>, below: usize)
     ensures { AreFalling entry_least below stack.old.items stack.new.items }
 {
     let (_, children) = stack.as_mut_slice().split_at_mut(below);
-    sort_rising(children);
+    children.sort_unstable_by_key(|child| child.least);
     children.reverse();
-}
-
-// Puts entries in ascending order of their least names, in which most of them stand.
-fn sort_rising(entries: &mut [Entry])
-    ensures moved { IsPermutation entries.old entries.new }
-    ensures rising { IsNonDecreasingBy entry_least entries.new }
-{
-    if !is_rising(entries) {
-        entries.sort_unstable_by_key(|entry| entry.least);
-    }
-}
-
-// Whether entries stand in ascending order of their least names.
-fn is_rising(entries: &[Entry]) -> bool
-    ensures { IsTrue result → IsNonDecreasingBy entry_least entries.now }
-{
-    for i in 1..entries.len() {
-        if entries[i].least < entries[i - 1].least {
-            return false;
-        }
-    }
-    true
 }
 
 // The outlines of the trees on a stack, from the last to the first: a part each turn, and the first

@@ -145,17 +145,19 @@ pub(crate) fn column_place(j: u32) -> usize
     j as usize * (j as usize).saturating_sub(1) / 2
 }
 
-// The bits of column j from row `low` on, 64 at most: those of the rows above row j.
+// The bits of column j, which begins at `place`, from row `low` on, 64 at most: those of the rows
+// above row j.
 #[inline]
-fn column_bits(body: &[u8], j: u32, low: u32) -> u64
+fn column_bits(body: &[u8], place: usize, j: u32, low: u32) -> u64
     requires name { j < NAMES }
+    requires place { place ≡ pair_number 0 j }
     requires above { low ≤ j }
     requires groups { AreGroups body.now }
     ensures { (k : ℕ) → k < 64
         → bit_at result k
         ≡ (if nat_lt (low + k) j then bit body.now (pair_number (low + k) j) else 0) }
 {
-    let bits = bits_from(body, column_place(j) + low as usize);
+    let bits = bits_from(body, place + low as usize);
     low_bits(bits, j - low)
 }
 
@@ -168,8 +170,10 @@ fn block_bits(body: &[u8], n: u32, low: u32, high: u32) -> [u64; 64]
     ensures { IsBlock body.now n low high result }
 {
     let mut block = [0; 64];
+    let mut place = column_place(high);
     for r in 0..(n - high).min(64) {
-        block[r as usize] = column_bits(body, high + r, low);
+        block[r as usize] = column_bits(body, place, high + r, low);
+        place += (high + r) as usize;
     }
     block
 }

@@ -182,13 +182,16 @@ places_there e v pieces j (w ∷ ws) p = here (places_there e v pieces (suc j) w
 
 -- ---- pieces that are gathered
 
+-- two pieces behind what is gathered
+pub two_put : (text held moved kept new first second : List ℕ) → moved ++ kept ≡ text ++ held → new ≡ (kept ++ first) ++ second → moved ++ new ≡ ((text ++ held) ++ first) ++ second
+two_put text held moved kept new first second same put =
+    ap (λ l. moved ++ l) put ∙ sym (append_assoc moved (kept ++ first) second) ∙ ap (λ l. l ++ second) (sym (append_assoc moved kept first) ∙ ap (λ l. l ++ first) same)
+
 -- a piece and the one at an index
-pub pair_put : (text held moved kept new first : List ℕ) (pieces : List Piece) (i : ℕ) (piece : Piece) → moved ++ kept ≡ text ++ held → new ≡ (kept ++ first) ++ piece_text piece → piece ≡ get_or pieces i piece → i < length pieces →
-    moved ++ new ≡ (text ++ held) ++ (first ++ text_at pieces i)
-pair_put text held moved kept new first pieces i piece same put is there =
+pub pair_put : (before mid first : List ℕ) (pieces : List Piece) (i : ℕ) (piece : Piece) → mid ≡ (before ++ first) ++ piece_text piece → piece ≡ get_or pieces i piece → i < length pieces → mid ≡ before ++ (first ++ text_at pieces i)
+pair_put before mid first pieces i piece put is there =
     let at : piece_text piece ≡ text_at pieces i = ap piece_text is ∙ sym (ap (λ o. option_map_or piece_text o []) (slice_get-get_or pieces i piece there)) in
-    ap (λ l. moved ++ l) (put ∙ append_assoc kept first (piece_text piece) ∙ ap (λ l. kept ++ (first ++ l)) at)
-    ∙ sym (append_assoc moved kept (first ++ text_at pieces i)) ∙ ap (λ l. l ++ (first ++ text_at pieces i)) same
+    put ∙ append_assoc before first (piece_text piece) ∙ ap (λ l. before ++ (first ++ l)) at
 
 -- the first name of a row, and the others
 pub first_near : (near : NameSet) (from first : ℕ) → IsLeastFrom near from first → first < NAMES → ascending_from near from ≡ first ∷ ascending_from near (first + 1)
@@ -221,11 +224,8 @@ module _ {P : Type 0} (r : PairRules P) (e : ℕ → ℕ → Bool) (list : List 
     pub text : now ++ pairs_text_by r mark (pairs_from r e list i (drop i list)) ≡ before ++ pairs_text_by r 59 (head_pairs r e list)
     pub places : SpellPositions pieces 0 list
 
-  pub heads_begin : (before gathered : List ℕ) (pieces : List Piece) → gathered ≡ [] → SpellPositions pieces 0 list → AreHeadsPut 0 before (before ++ gathered) 59 pieces
-  heads_begin before gathered pieces none places = record {
-    text = ap (λ l. (before ++ l) ++ pairs_text_by r 59 (head_pairs r e list)) none ∙ ap (λ l. l ++ pairs_text_by r 59 (head_pairs r e list)) (append-nil before);
-    places = places;
-  }
+  pub heads_begin : (before : List ℕ) (pieces : List Piece) → SpellPositions pieces 0 list → AreHeadsPut 0 before before 59 pieces
+  heads_begin before pieces places = record { text = refl; places = places }
 
   pub heads_end : (i : ℕ) (before now : List ℕ) (mark : ℕ) (pieces : List Piece) → length list ≤ i → AreHeadsPut i before now mark pieces → now ≡ before ++ pairs_text_by r 59 (head_pairs r e list)
   heads_end i before now mark pieces over p = sym (append-nil now) ∙ ap (λ l. now ++ pairs_text_by r mark (pairs_from r e list i l)) (sym (drop_all i list over)) ∙ p.text

@@ -1,23 +1,33 @@
 -- One part more of a tree's text.
 use Rattle.std.proofs.Common.{◌≡◌, ℕ, suc, ◌+◌, ◌-◌, ◌<◌, ◌≤◌, Bool, List, [], ◌∷◌, ◌++◌, length, take, drop, Option, Some, None, codes, append_assoc, append-nil, refl, sym, ◌∙◌, ap, ap₂, subst, inl, inr, arith, length-append}
 use Rattle.std.proofs.lemmas.List.{drop_at, same_from_push}
+use Rattle.std.proofs.lemmas.List.Elements.{All-nil, All-cons, All-head, All-append, All-drop}
+use Rattle.std.specs.List.{All}
 use Rattle.md_graph.specs.PlainGraph.{PlainGraph, IsGraph, adjacent}
-use Rattle.md_graph.specs.Sets.{NameSet}
+use Rattle.md_graph.specs.Sets.{NameSet, Has}
+use Rattle.md_graph.specs.declared.TheConstants.{NAMES}
+use Rattle.md_graph.proofs.SetLemmas.{only_has, union_left, union_right}
 use Rattle.md_text.specs.Numbers.{decimal}
 use Rattle.md_tree.specs.declared.Kind.{Kind}
 use Rattle.md_tree.specs.Heads.{head, head_at}
 use Rattle.md_tree.specs.Spellings.{letter}
 use Rattle.md_tree.specs.StrongTrees.{IsTree}
-use Rattle.md_tree.specs.Trees.{PlainTree, leaf, node, PlainTrees, no_tree, one_more, count, EachNode, EachNodeBelow}
+use Rattle.md_tree.specs.Trees.{PlainTree, leaf, node, PlainTrees, no_tree, one_more, names, names_below, count, EachNode, EachNodeBelow}
 use Rattle.md_tree.specs.TreeTexts.{tree_text, row_text, pairs_text, text_of}
+use Rattle.md_tree.proofs.Built.{tree_names}
 use Rattle.md_tree.proofs.Leaving.{no_snoc}
 use Rattle.md_outline.specs.declared.outline.OutlinePart.{OutlinePart}
 use Rattle.md_outline.specs.declared.outline.OutlinePart.TheVariants.{Name, Node}
 use Rattle.md_outline.specs.declared.writer.Begun.{Begun}
 use Rattle.md_outline.specs.Outlines.{outline_of, row_outline, outline_option}
 use Rattle.md_outline.specs.NodeRows.{head_list, AreHeadsOf, pairs_by_rows, IsNodeByRows}
-use Rattle.md_outline.specs.BegunNodes.{BegunNode, begun_node, begun_nodes, heads_held, parts_left, text_left, HasChildLeft, AreHeld, IsMarkPut, AreBegun, IsDue, IsOnWay, MayGoOn}
+use Rattle.md_outline.specs.BegunNodes.{IsPartNamed, BegunNode, begun_node, begun_nodes, heads_held, parts_left, text_left, HasChildLeft, AreHeld, IsMarkPut, AreBegun, IsDue, IsOnWay, MayGoOn}
 use Rattle.md_outline.proofs.NodeRows.{count_heads, rows_tell}
+
+-- ---- the text of a mark and a name
+
+pub marked_name : (text next first second : List ℕ) (mark v : ℕ) → next ≡ (text ++ first) ++ second → first ≡ mark ∷ [] → second ≡ decimal v → next ≡ (text ++ mark ∷ []) ++ decimal v
+marked_name text next first second mark v put is_mark is_name = put ∙ ap₂ (λ f s. (text ++ f) ++ s) is_mark is_name
 
 -- ---- no node is begun
 
@@ -280,6 +290,23 @@ module _ (e : ℕ → ℕ → Bool) (s : NameSet) where
               by_tree (leaf w) f = cc
               by_tree (node k cs ps) f = cc
 
+-- ---- the names of a tree
+
+mutual
+  parts_named : (t : PlainTree) → ((v : ℕ) → Has (names t) v → v < NAMES) → All IsPartNamed (outline_of t)
+  parts_named (leaf v) below = All-cons IsPartNamed (Name v) [] (below v (only_has v)) (All-nil IsPartNamed)
+  parts_named (node k cs ps) below = All-cons IsPartNamed (Node k (count cs)) (row_outline cs) tt (row_named cs below)
+
+  row_named : (cs : PlainTrees) → ((v : ℕ) → Has (names_below cs) v → v < NAMES) → All IsPartNamed (row_outline cs)
+  row_named no_tree below = All-nil IsPartNamed
+  row_named (one_more t ts) below =
+      All-append IsPartNamed (outline_of t) (row_outline ts) (parts_named t (λ v h. below v (union_left (names t) (names_below ts) v h)))
+      (row_named ts (λ v h. below v (union_right (names t) (names_below ts) v h)))
+
+-- a name that stands in an outline is one of the names
+pub name_named : (parts others : List (OutlinePart Kind)) (at v : ℕ) → All IsPartNamed parts → drop at parts ≡ Name v ∷ others → v < NAMES
+name_named parts others at v named cut = All-head IsPartNamed (Name v) others (subst (All IsPartNamed) cut (All-drop IsPartNamed at parts named))
+
 -- ---- a tree, or none
 
 no_outline : (t : PlainTree) → length (outline_of t) ≡ 0 → ⊥
@@ -293,6 +320,10 @@ text_of_none parts (Some t) none are = absurd (no_outline t (ap length (sym are)
 module _ {g : PlainGraph} (graph : IsGraph g) (parts : List (OutlinePart Kind)) (some : 0 < length parts) where
   none_left : parts ≡ [] → ⊥
   none_left f = let l : length parts ≡ 0 = ap length f in omega arith
+
+  pub all_named : (t : Option PlainTree) → IsTree (adjacent g) g.vertices t → parts ≡ outline_option t → All IsPartNamed parts
+  all_named None is are = absurd (none_left are)
+  all_named (Some t) is are = subst (All IsPartNamed) (sym are) (parts_named t (λ v h. graph.names v (subst (λ s. Has s v) (tree_names g.vertices t is) h)))
 
   pub some_tree : (t : Option PlainTree) → IsTree (adjacent g) g.vertices t → parts ≡ outline_option t → (u : PlainTree) × EachNode (IsNodeByRows (adjacent g) g.vertices) u × (parts ≡ outline_of u)
   some_tree None is are = absurd (none_left are)

@@ -1,6 +1,7 @@
 -- A tree of which a part is written, while the rest of its outline is still to come.
 -- Source: the continuation of a traversal, as in any textbook of algorithms.
 use Rattle.std.specs.Prelude.{◌≡◌, ◌⊎◌, ◌<◌, ◌-◌, ℕ, Bool, List, [], ◌∷◌, ◌++◌, ⊤}
+use Rattle.md_graph.specs.declared.TheConstants.{NAMES}
 use Rattle.md_graph.specs.Sets.{NameSet}
 use Rattle.md_tree.specs.declared.Kind.{Kind}
 use Rattle.md_tree.specs.declared.Pair.{Pair}
@@ -8,9 +9,15 @@ use Rattle.md_tree.specs.Heads.{head, head_at}
 use Rattle.md_tree.specs.Trees.{PlainTree, PlainTrees, count, EachNode, EachNodeBelow}
 use Rattle.md_tree.specs.TreeTexts.{tree_text, row_text, pairs_text}
 use Rattle.md_outline.specs.declared.outline.OutlinePart.{OutlinePart}
+use Rattle.md_outline.specs.declared.outline.OutlinePart.TheVariants.{Name, Node}
 use Rattle.md_outline.specs.declared.writer.Begun.{Begun}
 use Rattle.md_outline.specs.Outlines.{outline_of, row_outline}
 use Rattle.md_outline.specs.NodeRows.{head_list, IsNodeByRows}
+
+-- the part is a node, or one of the names
+abbrev pub IsPartNamed : OutlinePart Kind → Type 0
+IsPartNamed (Name v) = v < NAMES
+IsPartNamed (Node k n) = ⊤
 
 -- a node whose letter is written: its kind, all its children and its pairs; the heads of the children that are finished, those that
 -- are still to come, and the mark before the first of these

@@ -18,29 +18,29 @@ use md_graph::{GraphOf, Memory, Set};
 use md_text::{CHUNK_SIZE, Chunk, Piece, number_piece, piece_behind};
 use md_tree::{Pair, Paired};
 
-// So many bytes have room for a pair, which is two pieces.
-const PAIR_ROOM: usize = 16;
+// So many bytes have room for two pieces.
+const TWO_PIECES: usize = 16;
 
 // The semicolon and the pairs, where there are some, of a prime node with these heads of its
-// children.
-pub(crate) fn push_head_pairs<const W: usize>(
+// children. What is gathered in the chunk stands behind the text.
+pub(crate) fn put_head_pairs<const W: usize>(
     text: &mut Vec<u8>,
     graph: &GraphOf<W>,
     heads: &[u32],
     space: &mut PairSpace,
 ) -> Result<(), Memory>
     requires { AreHeadsOf graph.now.vertices heads.now }
-    ensures { OnOk result (text.new.items ≡ text.old.items
+    ensures { OnOk result (text.new.items ++ space.new.chunk
+        ≡ (text.old.items ++ space.old.chunk)
         ++ pairs_text 59 (head_pairs graph_pairs (is_edge_up (adjacent graph.now)) heads.now)) }
 {
     let _vertices = graph.vertices();
     space.places.spell(heads)?;
     let all = Set::from_list(heads);
     let room = pair_room(space.places.as_slice(), heads);
-    text.reserve(count_pairs(graph, heads, &all).saturating_mul(room))?;
-    gather_pairs(text, graph, heads, &all, space)?;
     space.chunk.flush(text)?;
-    Ok(())
+    text.reserve(count_pairs(graph, heads, &all).saturating_mul(room))?;
+    gather_pairs(text, graph, heads, &all, space)
 }
 
 // How many bytes a pair of these heads has at most, with the mark before it.
@@ -50,7 +50,7 @@ fn pair_room(places: &[Piece], heads: &[u32]) -> usize {
     };
     match places.get(*last as usize) {
         Some(piece) => 2 * piece.used + 2,
-        None => PAIR_ROOM,
+        None => TWO_PIECES,
     }
 }
 
@@ -72,7 +72,7 @@ fn count_pairs<const W: usize>(graph: &GraphOf<W>, heads: &[u32], all: &Set<W>) 
     ends / 2
 }
 
-// Gathers the pairs of the heads, of which the last ones stay in the chunk.
+// Gathers the pairs of the heads.
 fn gather_pairs<const W: usize>(
     text: &mut Vec<u8>,
     graph: &GraphOf<W>,
@@ -84,11 +84,11 @@ fn gather_pairs<const W: usize>(
     requires few { length heads.now ≤ 10 ^ 5 }
     requires all { all.now ≡ set.from_list heads.now }
     requires places { SpellPositions space.old.places 0 heads.now }
-    ensures { OnOk result (text.new.items ++ space.new.chunk ≡ text.old.items
+    ensures { OnOk result (text.new.items ++ space.new.chunk
+        ≡ (text.old.items ++ space.old.chunk)
         ++ pairs_text 59 (head_pairs graph_pairs (is_edge_up (adjacent graph.now)) heads.now)) }
 {
     let _vertices = graph.vertices();
-    space.chunk.clear();
     space.mark = b';';
     let whole = graph.vertices().is_subset(all);
     for (position, head) in heads.iter().enumerate() {
@@ -164,26 +164,24 @@ pub fn put_row<P: Paired, E, T: Target<E>, const W: usize>(
     let start = piece_behind(space.mark, digits);
     space.mark = b',';
     let pieces = space.places.as_slice();
-    put_pair(target, start, first, pieces, &mut space.chunk)?;
+    put_two(target, start, pieces[first as usize], &mut space.chunk)?;
     let start = piece_behind(b',', digits);
     write_members(near, first + 1, start, pieces, &mut space.chunk, target)
 }
 
-// Gathers the piece `start` and the one at the index of a name; where the chunk has no room for
-// them, the target takes its bytes first.
-fn put_pair<E, T: Target<E>>(
+// Gathers two pieces; where the chunk has no room for them, the target takes its bytes first.
+#[inline(always)]
+pub(crate) fn put_two<E, T: Target<E>>(
     target: &mut T,
-    start: Piece,
-    name: u32,
-    pieces: &[Piece],
+    first: Piece,
+    second: Piece,
     chunk: &mut Chunk,
 ) -> Result<(), E>
-    requires { name < length pieces.now }
-    ensures put { OnOk result (T.bytes target.new ++ chunk.new ≡ (T.bytes target.old ++ chunk.old)
-        ++ (piece_text start ++ text_at pieces.now name)) }
+    ensures put { OnOk result (T.bytes target.new ++ chunk.new
+        ≡ ((T.bytes target.old ++ chunk.old) ++ piece_text first) ++ piece_text second) }
     ensures text { OnOk result (T.text target.new ≡ T.text target.old) }
 {
-    make_room(PAIR_ROOM, chunk, target)?;
-    chunk.put_both(start, pieces[name as usize]);
+    make_room(TWO_PIECES, chunk, target)?;
+    chunk.put_both(first, second);
     Ok(())
 }

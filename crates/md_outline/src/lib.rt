@@ -2,6 +2,7 @@
 #![tactic(auto)]
 
 mod head_pairs;
+mod name_pieces;
 mod outline;
 mod outline_parts;
 mod pair_space;

@@ -1,8 +1,10 @@
 //! Writes the text of a tree from its outline.
 ghost use Rattle.std.specs.Prelude.{◌≡◌, ◌+◌, ◌-◌, ◌<◌, ◌≤◌, ℕ, Bool, List, [], ◌∷◌, ◌++◌, length, drop, take, Option, IfSome, IfNone, IfOk, OnOk};
+ghost use Rattle.std.specs.List.{All};
 ghost use Rattle.md_graph.specs.PlainGraph.{adjacent};
 ghost use Rattle.md_graph.specs.Sets.{NameSet};
 ghost use Rattle.md_text.specs.Numbers.{decimal};
+ghost use Rattle.md_text.specs.Pieces.{piece_text};
 ghost use Rattle.md_tree.specs.declared.Kind.{Kind};
 ghost use Rattle.md_tree.specs.StrongTrees.{IsTree};
 ghost use Rattle.md_tree.specs.Trees.{PlainTree, EachNode};
@@ -11,18 +13,16 @@ ghost use Rattle.md_outline.specs.declared.outline.OutlinePart.{OutlinePart};
 ghost use Rattle.md_outline.specs.declared.outline.OutlinePart.TheVariants.{Name};
 ghost use Rattle.md_outline.specs.Outlines.{outline_of, outline_option};
 ghost use Rattle.md_outline.specs.NodeRows.{AreHeadsOf, IsNodeByRows, pairs_by_rows};
-ghost use Rattle.md_outline.specs.BegunNodes.{HasChildLeft, IsMarkPut, IsOnWay, MayGoOn};
+ghost use Rattle.md_outline.specs.BegunNodes.{IsPartNamed, HasChildLeft, IsMarkPut, IsOnWay, MayGoOn};
 
 use crate::OutlinePart;
-use crate::head_pairs::push_head_pairs;
+use crate::head_pairs::{put_head_pairs, put_two};
+use crate::name_pieces::NamePieces;
 use crate::pair_space::PairSpace;
 use md_graph::{GraphOf, Memory};
-use md_text::{push_decimal, push_number};
+use md_text::{Chunk, Piece};
 use md_tree::{Kind, Lettered};
 use std::alloc::Global;
-
-// So many bytes have room for a name and the mark before it.
-const NAME_ROOM: usize = 21;
 
 /// What a writer of outlines needs beside the text. It serves many outlines, one after the other,
 /// and keeps its memory.
@@ -30,6 +30,7 @@ const NAME_ROOM: usize = 21;
 pub struct RowSpace {
     begun: Vec<Begun>,
     heads: Vec<u32>,
+    names: NamePieces,
     pairs: PairSpace,
 }
 
@@ -49,6 +50,7 @@ impl RowSpace {
         RowSpace {
             begun: Vec::new(alloc),
             heads: Vec::new(alloc),
+            names: NamePieces::new(alloc),
             pairs: PairSpace::new(alloc),
         }
     }
@@ -78,14 +80,16 @@ pub fn push_text_by_rows<const W: usize>(
 }
 
 // The nodes that are begun stand on a stack of their own, the innermost last, so that no call nests
-// as deep as the tree; and beside it the heads of their finished children.
+// as deep as the tree; and beside it the heads of their finished children. The end of the text is
+// gathered in a chunk.
 fn push_tree<const W: usize>(
     text: &mut Vec<u8>,
     parts: &[OutlinePart<Kind>],
     graph: &GraphOf<W>,
     space: &mut RowSpace,
 ) -> Result<(), Memory>
-    requires { (t : PlainTree)
+    requires named { All IsPartNamed parts.now }
+    requires tree { (t : PlainTree)
         × EachNode (IsNodeByRows (adjacent graph.now) graph.now.vertices) t
         × (parts.now ≡ outline_of t) }
     ensures { OnOk result ((t : PlainTree)
@@ -95,36 +99,45 @@ fn push_tree<const W: usize>(
 {
     space.begun.clear();
     space.heads.clear();
+    space.pairs.chunk.clear();
     let mut next = 0;
     while next < parts.len() {
-        push_part(text, parts[next], space)?;
-        next = push_names(text, parts, next + 1, &mut space.begun, &mut space.heads)?;
-        push_ends(text, graph, space)?;
+        put_part(text, parts[next], space)?;
+        next = put_names(
+            text,
+            parts,
+            next + 1,
+            &mut space.begun,
+            &mut space.heads,
+            &mut space.names,
+            &mut space.pairs.chunk,
+        )?;
+        put_ends(text, graph, space)?;
     }
+    space.pairs.chunk.flush(text)?;
     Ok(())
 }
 
 // The mark before a part, and the part: a name, or the letter of a node, which then is begun.
-fn push_part(
-    text: &mut Vec<u8>,
-    part: OutlinePart<Kind>,
-    space: &mut RowSpace,
-) -> Result<(), Memory>
-    requires { HasChildLeft space.old.begun.items }
+fn put_part(text: &mut Vec<u8>, part: OutlinePart<Kind>, space: &mut RowSpace) -> Result<(), Memory>
+    requires named { IsPartNamed part }
+    requires ready { HasChildLeft space.old.begun.items }
     ensures { OnOk result ((e : ℕ → ℕ → Bool) (s : NameSet) (whole : List ℕ)
         (others : List (OutlinePart Kind))
-        → MayGoOn e s whole text.old.items (part ∷ others)
+        → MayGoOn e s whole (text.old.items ++ space.old.pairs.chunk) (part ∷ others)
         space.old.begun.items space.old.heads.items
-        → IsOnWay e s whole text.new.items others space.new.begun.items space.new.heads.items) }
+        → IsOnWay e s whole (text.new.items ++ space.new.pairs.chunk) others
+        space.new.begun.items space.new.heads.items) }
 {
-    push_mark(text, &mut space.begun)?;
+    let mark = take_mark(&mut space.begun)?;
     match part {
         OutlinePart::Name(name) => {
-            push_number(text, u64::from(name))?;
+            let digits = space.names.digits(name)?;
+            put_two(text, mark, digits, &mut space.pairs.chunk)?;
             space.heads.push(name)?;
         }
         OutlinePart::Node(kind, count) => {
-            text.push(kind.letter())?;
+            put_two(text, mark, byte_piece(kind.letter()), &mut space.pairs.chunk)?;
             space.begun.push(Begun {
                 kind,
                 count,
@@ -138,17 +151,21 @@ fn push_part(
 
 // The names that come from a part on, as far as they are children of the innermost node that is
 // begun: all that a leaf costs is here. The part behind them comes back.
-fn push_names(
+fn put_names(
     text: &mut Vec<u8>,
     parts: &[OutlinePart<Kind>],
     from: usize,
     begun: &mut Vec<Begun>,
     heads: &mut Vec<u32>,
+    names: &mut NamePieces,
+    chunk: &mut Chunk,
 ) -> Result<usize, Memory>
+    requires { All IsPartNamed parts.now }
     ensures written { IfOk result (λ next. (e : ℕ → ℕ → Bool) (s : NameSet) (whole : List ℕ)
-        → IsOnWay e s whole text.old.items (drop from parts.now) begun.old.items heads.old.items
-        → IsOnWay e s whole text.new.items (drop next parts.now) begun.new.items
-        heads.new.items) }
+        → IsOnWay e s whole (text.old.items ++ chunk.old) (drop from parts.now)
+        begun.old.items heads.old.items
+        → IsOnWay e s whole (text.new.items ++ chunk.new) (drop next parts.now)
+        begun.new.items heads.new.items) }
     ensures on { IfOk result (λ next. from ≤ next) }
 {
     let Some(mut node) = begun.pop() else {
@@ -157,7 +174,7 @@ fn push_names(
     heads.reserve(node.left as usize)?;
     let mut next = from;
     while let Some(name) = next_name(parts, next, node.left) {
-        push_name(text, node.mark, name)?;
+        put_two(text, byte_piece(node.mark), names.digits(name)?, chunk)?;
         heads.push_reserved(name);
         node.left -= 1;
         node.mark = b',';
@@ -184,54 +201,65 @@ fn next_name(parts: &[OutlinePart<Kind>], at: usize, left: u32) -> Option<u32>
     }
 }
 
-// A mark and a name behind it.
-#[tactic(auto, using(md_text::proofs::NumberLemmas::decimal_fits_20))]
-#[inline(always)]
-fn push_name(text: &mut Vec<u8>, mark: u8, name: u32) -> Result<(), Memory>
-    ensures { OnOk result (text.new.items ≡ (text.old.items ++ mark ∷ []) ++ decimal name) }
-{
-    text.reserve(NAME_ROOM)?;
-    text.push_reserved(mark);
-    push_decimal(text, u64::from(name));
-    Ok(())
-}
-
-// The mark before the next child of the innermost node that is begun.
-fn push_mark(text: &mut Vec<u8>, begun: &mut Vec<Begun>) -> Result<(), Memory>
+// The mark before the next child of the innermost node that is begun; nothing where none is begun.
+fn take_mark(begun: &mut Vec<Begun>) -> Result<Piece, Memory>
     requires { HasChildLeft begun.old.items }
-    ensures { OnOk result (IsMarkPut text.old.items begun.old.items text.new.items begun.new.items) }
+    ensures { IfOk result (λ mark. (text : List ℕ)
+        → IsMarkPut text begun.old.items (text ++ piece_text mark) begun.new.items) }
 {
     let Some(node) = begun.pop() else {
-        return Ok(());
+        return Ok(empty_piece());
     };
-    text.push(node.mark)?;
     begun.push(Begun {
         kind: node.kind,
         count: node.count,
         left: node.left - 1,
         mark: b',',
     })?;
-    Ok(())
+    Ok(byte_piece(node.mark))
+}
+
+// A piece of one byte.
+#[inline(always)]
+fn byte_piece(byte: u8) -> Piece
+    ensures { piece_text result ≡ byte ∷ [] }
+{
+    let mut bytes = [0; 8];
+    bytes[0] = byte;
+    Piece { bytes, used: 1 }
+}
+
+// A piece without bytes.
+fn empty_piece() -> Piece
+    ensures { piece_text result ≡ [] }
+{
+    Piece {
+        bytes: [0; 8],
+        used: 0,
+    }
 }
 
 // The ends of the nodes that have no child left, up to the first that has one.
-fn push_ends<const W: usize>(
+fn put_ends<const W: usize>(
     text: &mut Vec<u8>,
     graph: &GraphOf<W>,
     space: &mut RowSpace,
 ) -> Result<(), Memory>
     requires { (whole : List ℕ) × (parts : List (OutlinePart Kind))
-        × IsOnWay (adjacent graph.now) graph.now.vertices whole text.old.items parts
+        × IsOnWay (adjacent graph.now) graph.now.vertices whole
+        (text.old.items ++ space.old.pairs.chunk) parts
         space.old.begun.items space.old.heads.items }
     ensures written { OnOk result ((whole : List ℕ) (parts : List (OutlinePart Kind))
-        → IsOnWay (adjacent graph.now) graph.now.vertices whole text.old.items parts
+        → IsOnWay (adjacent graph.now) graph.now.vertices whole
+        (text.old.items ++ space.old.pairs.chunk) parts
         space.old.begun.items space.old.heads.items
-        → IsOnWay (adjacent graph.now) graph.now.vertices whole text.new.items parts
+        → IsOnWay (adjacent graph.now) graph.now.vertices whole
+        (text.new.items ++ space.new.pairs.chunk) parts
         space.new.begun.items space.new.heads.items) }
     ensures ready { OnOk result (HasChildLeft space.new.begun.items) }
 {
     while let Some(node) = pop_ended(&mut space.begun) {
-        push_end(text, node, graph, &mut space.heads, &mut space.pairs)?;
+        put_end(text, node, graph, &mut space.heads, &mut space.pairs)?;
     }
     Ok(())
 }
@@ -252,7 +280,7 @@ fn pop_ended(begun: &mut Vec<Begun>) -> Option<Begun>
 
 // The pairs and the closing bracket of a node. Of the heads of its children the first stays: it is
 // the head of the node.
-fn push_end<const W: usize>(
+fn put_end<const W: usize>(
     text: &mut Vec<u8>,
     node: Begun,
     graph: &GraphOf<W>,
@@ -262,7 +290,8 @@ fn push_end<const W: usize>(
     requires count { node.count ≤ length heads.old.items }
     requires heads { AreHeadsOf graph.now.vertices
         (drop (length heads.old.items - node.count) heads.old.items) }
-    ensures text { OnOk result (text.new.items ≡ text.old.items ++ (pairs_text 59
+    ensures text { OnOk result (text.new.items ++ pairs.new.chunk
+        ≡ (text.old.items ++ pairs.old.chunk) ++ (pairs_text 59
         (pairs_by_rows (adjacent graph.now) node.kind
         (drop (length heads.old.items - node.count) heads.old.items)) ++ 41 ∷ [])) }
     ensures heads { OnOk result (heads.new.items
@@ -270,9 +299,9 @@ fn push_end<const W: usize>(
 {
     let first = heads.len() - node.count as usize;
     if node.kind.lists() {
-        push_head_pairs(text, graph, &heads[first..], pairs)?;
+        put_head_pairs(text, graph, &heads[first..], pairs)?;
     }
-    text.push(b')')?;
+    put_two(text, empty_piece(), byte_piece(b')'), &mut pairs.chunk)?;
     heads.truncate(first + 1);
     Ok(())
 }

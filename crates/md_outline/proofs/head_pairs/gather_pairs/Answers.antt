@@ -10,7 +10,7 @@ use Rattle.md_outline.proofs.NodeRows.{edges_ahead}
 use Rattle.md_outline.proofs.head_pairs.gather_pairs.Goals as goal
 
 pub loop-position-init : goal.loop-position-init
-loop-position-init g c = heads_begin graph_pairs (is_edge_up (adjacent c.args.graph.now)) c.args.heads.now c.args.text.now.items c.clear.new.self c.args.space.now.places c.clear.ensures.changed c.requires.places
+loop-position-init g c = heads_begin graph_pairs (is_edge_up (adjacent c.args.graph.now)) c.args.heads.now (c.args.text.now.items ++ c.args.space.now.chunk) c.args.space.now.places c.requires.places
 
 pub put_head-requires : goal.put_head-requires
 put_head-requires g c =
@@ -30,8 +30,8 @@ loop-position-preserved g c =
     let row = neighbours c.args.graph.now head in
     let near = near_is (is_edge_up (adjacent c.args.graph.now)) c.args.heads.now c.requires.heads.order (λ k low. graph.names (get_or c.args.heads.now k 0) (c.requires.heads.members k low)) head row (intersection row c.args.all.now) c.args.all.now (head + 1)
     (let name = graph.names head vertex in omega arith) c.requires.all refl (edges_ahead graph head row refl) in
-    heads_more graph_pairs (is_edge_up (adjacent c.args.graph.now)) c.args.heads.now c.loop-position.position c.loop-position-test.true c.args.text.now.items (c.loop-position.text.items ++ c.loop-position.space.chunk) c.loop-position.space.mark c.loop-position.space.places
+    heads_more graph_pairs (is_edge_up (adjacent c.args.graph.now)) c.args.heads.now c.loop-position.position c.loop-position-test.true (c.args.text.now.items ++ c.args.space.now.chunk) (c.loop-position.text.items ++ c.loop-position.space.chunk) c.loop-position.space.mark c.loop-position.space.places
     c.loop-position.invariant (c.put_head.new.text.items ++ c.put_head.new.space.chunk) c.put_head.new.space.mark c.put_head.new.space.places (ascending_from (intersection row c.args.all.now) (head + 1)) c.put_head.ensures.places near c.in_ok-put_head.ensures.written
 
 pub returns : goal.returns
-returns g c = heads_end graph_pairs (is_edge_up (adjacent c.args.graph.now)) c.args.heads.now c.loop-position.position c.args.text.now.items (c.loop-position.text.items ++ c.loop-position.space.chunk) c.loop-position.space.mark c.loop-position.space.places (omega arith) c.loop-position.invariant
+returns g c = heads_end graph_pairs (is_edge_up (adjacent c.args.graph.now)) c.args.heads.now c.loop-position.position (c.args.text.now.items ++ c.args.space.now.chunk) (c.loop-position.text.items ++ c.loop-position.space.chunk) c.loop-position.space.mark c.loop-position.space.places (omega arith) c.loop-position.invariant

@@ -1,6 +1,6 @@
 use Rattle.std.proofs.lemmas.Result.{on_ok_weaker}
 use Rattle.std.proofs.Common.{◌++◌, ap, ◌∙◌, rules, arith}
-use Rattle.md_outline.proofs.Writing.{text_of_none, some_tree, text_of_some}
+use Rattle.md_outline.proofs.Writing.{text_of_none, all_named, some_tree, text_of_some}
 use Rattle.md_outline.proofs.writer.push_text_by_rows.Goals as goal
 
 pub returns-then-is_empty : goal.returns-then-is_empty
@@ -10,7 +10,7 @@ returns-then-is_empty g c = record {
 
 pub push_tree-requires : goal.push_tree-requires
 push_tree-requires g c =
-    (search rules, some_tree c.vertices-vertices.ensures.graph c.args.parts.now (grind (arith, c.is_empty.ensures, c.if-is_empty.false)) c.requires.0 c.requires.1 c.requires.2)
+    (search rules, (all_named c.vertices-vertices.ensures.graph c.args.parts.now (grind (arith, c.is_empty.ensures, c.if-is_empty.false)) c.requires.0 c.requires.1 c.requires.2, some_tree c.vertices-vertices.ensures.graph c.args.parts.now (grind (arith, c.is_empty.ensures, c.if-is_empty.false)) c.requires.0 c.requires.1 c.requires.2))
 
 pub returns : goal.returns
 returns g c = record {

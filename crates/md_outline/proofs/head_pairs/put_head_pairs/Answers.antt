@@ -2,7 +2,7 @@ use Rattle.std.proofs.Common.{◌*◌, ◌<◌, get_or, rules, arith}
 use Rattle.std.proofs.lemmas.List.Elements.{All-from_get_or}
 use Rattle.md_graph.specs.declared.TheConstants.{NAMES}
 use Rattle.md_outline.proofs.HeadPairs.{few_heads}
-use Rattle.md_outline.proofs.head_pairs.push_head_pairs.Goals as goal
+use Rattle.md_outline.proofs.head_pairs.put_head_pairs.Goals as goal
 
 pub spell-requires : goal.spell-requires
 spell-requires g c =
