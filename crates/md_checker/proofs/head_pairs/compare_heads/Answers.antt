@@ -1,8 +1,8 @@
-use Rattle.std.proofs.Common.{◌++◌, ◌<◌, ◌*◌, ◌∙◌, take, get_or, refl, rules, arith}
+use Rattle.std.proofs.Common.{◌++◌, ◌<◌, ◌*◌, ◌∙◌, append-nil, take, get_or, refl, sym, ap, subst, rules, arith}
 use Rattle.std.proofs.lemmas.Result.{on_ok_weaker}
 use Rattle.std.proofs.lemmas.List.Elements.{All-from_get_or}
 use Rattle.md_graph.specs.NameSet.{ascending_from}
-use Rattle.md_outline.proofs.HeadPairs.{heads_begin, near_is, near_there, heads_more, heads_end}
+use Rattle.md_outline.proofs.HeadPairs.{AreHeadsPut, heads_begin, near_is, near_there, heads_more, heads_end}
 use Rattle.md_checker.proofs.head_pairs.compare_heads.Goals as goal
 
 pub from_list-all-requires : goal.from_list-all-requires
@@ -11,7 +11,10 @@ from_list-all-requires g c =
 
 pub loop-position-init : goal.loop-position-init
 loop-position-init g c = record {
-  put = heads_begin g.P.Paired.rules (g.G.TextGraph.view c.args.graph.now).lists c.args.heads.now (take c.args.compared.now.same c.args.compared.now.text.now) c.clear.new.self c.args.space.now.places c.clear.ensures.changed c.requires.places;
+  put =
+      let before = take c.args.compared.now.same c.args.compared.now.text.now in
+      subst (λ l. AreHeadsPut g.P.Paired.rules (g.G.TextGraph.view c.args.graph.now).lists c.args.heads.now 0 before l 59 c.args.space.now.places) (sym (ap (λ l. before ++ l) c.clear.ensures.changed ∙ append-nil before))
+      (heads_begin g.P.Paired.rules (g.G.TextGraph.view c.args.graph.now).lists c.args.heads.now before c.args.space.now.places c.requires.places);
   text = refl;
 }
 
