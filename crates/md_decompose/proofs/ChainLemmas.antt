@@ -19,17 +19,13 @@ use Rattle.md_modules.proofs.Modules.{undirected, module_inside, module_of_modul
 use Rattle.md_modules.proofs.Components.{prime_unsplit}
 use Rattle.md_modules.proofs.Strong.{nested_if_meet}
 use Rattle.md_text.proofs.Lists.{In, of_contains}
+use Rattle.md_outline.proofs.HeadPairs.{to_set}
 use Rattle.md_decompose.specs.declared.nested_modules.Step.{Step}
 use Rattle.md_decompose.specs.declared.nested_modules.Nested.{Nested}
 use Rattle.md_decompose.specs.Chains.{with_names, no_step, step_at, taken_with, IsGrown, IsStepOf, AreSteps, IsChainOf, IsChainFront}
 use Rattle.md_decompose.proofs.ChildLemmas.{IsHeld, held_begins, held_grown, held_falls, held_ends}
 
 -- ---- the names of a list
-
-in_listed : (xs : List ℕ) (x : ℕ) → In xs x → Has (from_list xs) x
-in_listed [] x i = absurd i
-in_listed (k ∷ xs) x (inl same) = subst (Has (insert (from_list xs) k)) (sym same) (insert_new (from_list xs) k)
-in_listed (k ∷ xs) x (inr i) = insert_old (from_list xs) k x (in_listed xs x i)
 
 of_listed_both : (xs ys : List ℕ) (x : ℕ) → Has (from_list (xs ++ ys)) x → Has (from_list xs) x ⊎ Has (from_list ys) x
 of_listed_both [] ys x h = inr h
@@ -307,7 +303,7 @@ module _ {e : ℕ → ℕ → Bool} where
 
   module _ (adj : IsAdjacency e) (s : NameSet) (v : ℕ) (prime : IsPrime e s) (hv : Has s v) where
     names_within : (taken : List ℕ) (j : ℕ) → IsHeld e s v j (with_names v taken) → (x : ℕ) → Contains taken x → Has s x
-    names_within taken j is x known = is.is_module.inside x (insert_old (from_list taken) v x (in_listed taken x (of_contains taken x known)))
+    names_within taken j is x known = is.is_module.inside x (insert_old (from_list taken) v x (to_set taken x (of_contains taken x known)))
 
     -- the last module, and the name that led to it
     pub steps_held : (taken : List ℕ) (steps : List Step) (last : ℕ) → AreSteps e s v taken steps → (length steps ≡ 0 → last ≡ v) →

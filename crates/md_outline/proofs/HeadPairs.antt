@@ -166,7 +166,7 @@ of_set : (xs : List ℕ) (y : ℕ) → Has (from_list xs) y → In xs y
 of_set [] y h = clash h (empty_lacks y)
 of_set (x ∷ xs) y h = elim (of_insert (from_list xs) x y h) [ inl e ↦ inl e | inr r ↦ inr (of_set xs y r) ]
 
-to_set : (xs : List ℕ) (y : ℕ) → In xs y → Has (from_list xs) y
+pub to_set : (xs : List ℕ) (y : ℕ) → In xs y → Has (from_list xs) y
 to_set [] y i = absurd i
 to_set (x ∷ xs) y (inl e) = subst (Has (insert (from_list xs) x)) (sym e) (insert_new (from_list xs) x)
 to_set (x ∷ xs) y (inr i) = insert_old (from_list xs) x y (to_set xs y i)

@@ -137,7 +137,8 @@ fn put_part(text: &mut Vec<u8>, part: OutlinePart<Kind>, space: &mut RowSpace) -
             space.heads.push(name)?;
         }
         OutlinePart::Node(kind, count) => {
-            put_two(text, mark, byte_piece(kind.letter()), &mut space.pairs.chunk)?;
+            let letter = byte_piece(kind.letter());
+            put_two(text, mark, letter, &mut space.pairs.chunk)?;
             space.begun.push(Begun {
                 kind,
                 count,

@@ -33,7 +33,7 @@ returns-then-not-branch g c =
       stands = (
         c.loop-rest.rest.now,
         subst (λ z. HaveComeBy j.may_come j.next (fed_by j.line_text) (j.place c.args.line_judge.now) c.args.report.now z c.loop-rest.rest.now c.loop-rest.line)
-        (sym (c.in_ok-feed_text.ensures.refused (λ some. clash some c.if-not-branch.true))) c.loop-rest.invariant.come,
+            (sym (c.in_ok-feed_text.ensures.refused (λ some. clash some c.if-not-branch.true))) c.loop-rest.invariant.come,
       );
     }
 

@@ -1,6 +1,5 @@
-use Rattle.std.proofs.Common.{◌∷◌, ◌++◌, [], ◌∙◌, ap, ap₂, subst}
+use Rattle.std.proofs.Common.{◌∷◌, ◌++◌, [], ◌∙◌, ap, subst}
 use Rattle.md_text.specs.Pieces.{piece_text}
-use Rattle.md_tree.specs.Spellings.{letter}
 use Rattle.md_outline.specs.declared.outline.OutlinePart.TheVariants.{Name, Node}
 use Rattle.md_outline.specs.BegunNodes.{IsPartNamed, MayGoOn}
 use Rattle.md_outline.proofs.Writing.{due_next, name_put, letter_put}
@@ -27,4 +26,4 @@ returns-in_ok-push-in-Node c e s whole others go =
     let mark = piece_text c.in_ok-mark.mark in
     letter_put e s whole (text ++ mark) (c.put_two-in-Node.new.target.items ++ c.put_two-in-Node.new.chunk) others c.take_mark.new.begun.items held c.in-Node.kind c.in-Node.count c.push-in-Node.new.self.items
     (due_next e s whole text (text ++ mark) (Node c.in-Node.kind c.in-Node.count) others begun c.take_mark.new.begun.items held c.requires.ready (c.in_ok-mark.ensures text) (subst (λ p. MayGoOn e s whole text (p ∷ others) begun held) c.in-Node.is go))
-    (c.in_ok-put_two-in-Node.ensures.put ∙ ap (λ d. (text ++ mark) ++ d) (c.byte_piece.ensures ∙ ap (λ b. b ∷ []) c.letter.ensures)) c.in_ok-push-in-Node.ensures.items
+    (c.in_ok-put_two-in-Node.ensures.put ∙ ap (λ d. (text ++ mark) ++ d) (c.byte_piece-letter.ensures ∙ ap (λ b. b ∷ []) c.letter.ensures)) c.in_ok-push-in-Node.ensures.items
