@@ -18,7 +18,7 @@ use Rattle.md_modules.specs.Kinds.{IsPrime}
 use Rattle.md_modules.proofs.Modules.{undirected, module_inside, module_of_module}
 use Rattle.md_modules.proofs.Components.{prime_unsplit}
 use Rattle.md_modules.proofs.Strong.{nested_if_meet}
-use Rattle.md_text.proofs.Lists.{In, of_contains}
+use Rattle.md_text.proofs.Lists.{of_contains}
 use Rattle.md_outline.proofs.HeadPairs.{to_set}
 use Rattle.md_decompose.specs.declared.nested_modules.Step.{Step}
 use Rattle.md_decompose.specs.declared.nested_modules.Nested.{Nested}

@@ -1,7 +1,7 @@
 -- The children of a set that doesn't split: the one that holds a name, and the maximal modules inside the rest. For any colours.
-use Rattle.std.proofs.Common.{◌≡◌, ℕ, ◌<◌, ◌≢◌, ◌↔◌, Bool, List, length, Contains, sym, ◌∙◌, subst, inl, inr}
+use Rattle.std.proofs.Common.{◌≡◌, ℕ, ◌<◌, ◌≢◌, ◌↔◌, List, length, Contains, sym, ◌∙◌, subst, inl, inr}
 use Rattle.std.specs.FinSet.{contains, empty, insert, union, difference, len}
-use Rattle.md_graph.specs.NameSet.{IsLeastFrom, NoneFrom}
+use Rattle.md_graph.specs.NameSet.{NoneFrom}
 use Rattle.md_graph.specs.Sets.{NameSet, Has, Lacks, Within}
 use Rattle.md_modules.specs.Colours.{IsColouring, AreTold}
 use Rattle.md_modules.specs.Modules.{IsModule, IsLeastModule, IsLeastModuleOver, IsMaximalModule, IsMaximalStrong}

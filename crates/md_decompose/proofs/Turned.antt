@@ -1,6 +1,6 @@
 -- Lists turned round, and the outlines of trees from the last to the first.
-use Rattle.std.proofs.Common.{◌≡◌, ℕ, ◌-◌, List, [], ◌∷◌, ◌++◌, length, take, drop, reverse, refl, sym, ◌∙◌, ap, subst, inl, inr, arith, append-nil, length-append}
-use Rattle.std.proofs.lemmas.List.{take_at, drop_at, take_all, drop_all, take_rest, length-reverse, reverse-append}
+use Rattle.std.proofs.Common.{◌≡◌, List, [], ◌∷◌, ◌++◌, reverse, refl, sym, ◌∙◌, ap, subst, inl, inr}
+use Rattle.std.proofs.lemmas.List.{reverse-append}
 use Rattle.md_text.proofs.Lists.{In, in_left, in_right}
 use Rattle.md_tree.specs.Trees.{PlainTreeOf, PlainTreesOf, row, EachNodeBelow}
 use Rattle.md_tree.proofs.Folding.{each_join}

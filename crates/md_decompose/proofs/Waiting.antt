@@ -1,5 +1,5 @@
 -- The sets that wait to be taken apart, and what is laid down of a tree so far: whatever trees the sets have, with theirs it is what is laid down of a tree.
-use Rattle.std.proofs.Common.{◌≡◌, ℕ, suc, List, [], ◌∷◌, ◌++◌, length, map, refl, sym, ◌∙◌, ap, subst, append_assoc, append-nil}
+use Rattle.std.proofs.Common.{◌≡◌, suc, List, [], ◌∷◌, ◌++◌, length, map, refl, sym, ◌∙◌, ap, subst, append_assoc, append-nil}
 use Rattle.std.proofs.lemmas.List.{map-append}
 use Rattle.md_graph.specs.Sets.{NameSet}
 use Rattle.md_tree.specs.Trees.{PlainTreeOf, PlainTreesOf, names, row, count, EachNode, EachNodeBelow}

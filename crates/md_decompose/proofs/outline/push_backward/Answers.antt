@@ -1,5 +1,5 @@
-use Rattle.std.proofs.Common.{◌≡◌, [], ◌∷◌, ◌++◌, length, reverse, refl, sym, ◌∙◌, ap, subst, inl, inr, arith, append-nil}
-use Rattle.std.proofs.lemmas.List.{nil_from_length, length_push}
+use Rattle.std.proofs.Common.{[], ◌∷◌, ◌++◌, length, reverse, refl, sym, ◌∙◌, ap, inl, inr, arith, append-nil}
+use Rattle.std.proofs.lemmas.List.{length_push}
 use Rattle.md_text.proofs.Lists.{of_contains}
 use Rattle.md_tree.proofs.Stacking.{if_ok}
 use Rattle.md_decompose.proofs.Opened.{bare_more, backward_more, opened_behind, opened_whole}

@@ -1,4 +1,4 @@
-use Rattle.std.proofs.Common.{◌≡◌, ◌+◌, ◌++◌, ◌≤◌, ◌⊎◌, List, length, reverse, vec_len, vec_capacity}
+use Rattle.std.proofs.Common.{◌≡◌, ◌+◌, ◌++◌, ◌≤◌, ◌⊎◌, List, reverse, vec_len, vec_capacity}
 use Rattle.md_graph.specs.Sets.{NameSet}
 use Rattle.md_decompose.specs.declared.decomposition.Open.{Open}
 use Rattle.md_decompose.specs.Turns.{AreBare}

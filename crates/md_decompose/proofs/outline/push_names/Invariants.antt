@@ -1,4 +1,3 @@
-use Rattle.std.proofs.Common.{◌≤◌, length}
 use Rattle.md_decompose.specs.Turns.{AreNamesPushed}
 use Rattle.md_decompose.proofs.outline.push_names.Given as goal
 
