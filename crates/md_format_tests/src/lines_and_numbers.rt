@@ -97,9 +97,7 @@ fn chunks(rt: HostRuntime) -> Result<(), Fail> {
         piece_behind(b'e', digits_piece(7)),
         number_piece(99_999, b'\n'),
     );
-    chunk.make_room(CHUNK_SIZE - 8, &mut text)?;
-    assert_eq!(rt; text.as_slice(), b"+".as_slice());
-    chunk.make_room(CHUNK_SIZE, &mut text)?;
+    chunk.flush(&mut text)?;
     assert_eq!(rt; text.as_slice(), b"+e799999\n".as_slice());
     chunk.put_both(digits_piece(0), digits_piece(10));
     assert_eq!(rt; chunk.room(), CHUNK_SIZE - 3);
