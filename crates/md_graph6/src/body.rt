@@ -146,19 +146,23 @@ pub(crate) fn column_place(j: u32) -> usize
 }
 
 // The bits of column j, which begins at `place`, from row `low` on, 64 at most: those of the rows
-// above row j.
+// above row j. All 64 rows are above it unless it is told that some may not be.
 #[inline]
-fn column_bits(body: &[u8], place: usize, j: u32, low: u32) -> u64
+fn column_bits(body: &[u8], place: usize, j: u32, low: u32, is_cut: bool) -> u64
     requires name { j < NAMES }
     requires place { place ≡ pair_number 0 j }
     requires above { low ≤ j }
+    requires whole { is_cut ≡ false → low + 64 ≤ j }
     requires groups { AreGroups body.now }
     ensures { (k : ℕ) → k < 64
         → bit_at result k
         ≡ (if nat_lt (low + k) j then bit body.now (pair_number (low + k) j) else 0) }
 {
     let bits = bits_from(body, place + low as usize);
-    low_bits(bits, j - low)
+    if is_cut {
+        return low_bits(bits, j - low);
+    }
+    bits
 }
 
 // The bits of the columns from `high` on, 64 at most and those below n, each from row `low` on.
@@ -171,8 +175,9 @@ fn block_bits(body: &[u8], n: u32, low: u32, high: u32) -> [u64; 64]
 {
     let mut block = [0; 64];
     let mut place = column_place(high);
+    let is_cut = high - low < 64;
     for r in 0..(n - high).min(64) {
-        block[r as usize] = column_bits(body, place, high + r, low);
+        block[r as usize] = column_bits(body, place, high + r, low, is_cut);
         place += (high + r) as usize;
     }
     block
