@@ -165,6 +165,11 @@ pub word_put : (pieces : List Piece) (start text held moved kept placed xs : Lis
 word_put pieces start text held moved kept placed xs same more =
     ap (λ l. moved ++ l) more ∙ sym (append_assoc moved kept (texts_at pieces start xs)) ∙ ap (λ l. l ++ texts_at pieces start xs) same
 
+-- two pieces behind what is gathered
+pub two_put : (text held moved kept new first second : List ℕ) → moved ++ kept ≡ text ++ held → new ≡ (kept ++ first) ++ second → moved ++ new ≡ ((text ++ held) ++ first) ++ second
+two_put text held moved kept new first second same put =
+    ap (λ l. moved ++ l) put ∙ sym (append_assoc moved (kept ++ first) second) ∙ ap (λ l. l ++ second) (sym (append_assoc moved kept first) ∙ ap (λ l. l ++ first) same)
+
 -- ---- the loop over the bits of a word
 
 pub rest_there : (n : ℕ) (x : ℕ) (xs ys : List ℕ) → ys ≡ x ∷ xs → All (λ w. w < n) ys → All (λ w. w < n) xs

@@ -8,10 +8,10 @@ ghost use Rattle.md_text.specs.Pieces.{piece_text, texts_at};
 use md_graph::lowest;
 use md_text::{CHUNK_SIZE, Chunk, Piece};
 
-/// Gathers, for each 1 in `bits`, the piece `start` and the one at the index of its name: bit k is
-/// for the name `first + k`. Conditions: there is such a piece for each of them, the names fit 32
-/// bits, and the chunk has room for the pieces of 64 names.
-pub fn write_block(first: u32, bits: u64, start: Piece, pieces: &[Piece], chunk: &mut Chunk)
+// Gathers, for each 1 in `bits`, the piece `start` and the one at the index of its name: bit k is for
+// the name `first + k`. There has to be such a piece for each of them, and room for the pieces of 64
+// names.
+pub(crate) fn write_block(first: u32, bits: u64, start: Piece, pieces: &[Piece], chunk: &mut Chunk)
     requires there { All (λ w. w < length pieces.now) (bits_between first bits 64) }
     requires fits { first + 64 < 2 ^ 32 }
     requires room { length chunk.old + 16 * 64 ≤ CHUNK_SIZE }
@@ -88,9 +88,9 @@ fn lowest_name(first: u32, bits: u64) -> Option<(u32, u64)>
     Some((first + place, others))
 }
 
-/// The bits from a place on. Condition: the place is below 64.
+// The bits from a place on.
 #[inline(always)]
-pub fn bits_from(bits: u64, place: u32) -> u64
+pub(crate) fn bits_from(bits: u64, place: u32) -> u64
     requires place { place < 64 }
     ensures bits { (k : ℕ) → k < 64 → bit_at result k ≡ (if nat_le place k then bit_at bits k else 0) }
 {

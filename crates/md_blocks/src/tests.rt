@@ -1,8 +1,8 @@
-//! The texts of members in two words, some of which stand below the first name.
+//! The texts of members in two words, some of which stand below the first name; room for more.
 
 use super::*;
 use md_graph::Set;
-use md_text::{Chunk, digits_piece, piece_behind};
+use md_text::{CHUNK_SIZE, Chunk, digits_piece, number_piece, piece_behind};
 use std::test::Fail;
 
 // Gathers the texts of the members from the second on before a target.
@@ -27,6 +27,22 @@ fn writes_members(rt: HostRuntime) -> Result<(), Fail> {
         text.as_slice(),
         b"-40-455-40-40-40-412345-40-49".as_slice()
     );
+    Ok(())
+}
+
+// A chunk goes to its target when there is no room for more, and not before.
+#[test]
+fn makes_room(rt: HostRuntime) -> Result<(), Fail> {
+    let mut text = Vec::new(rt.alloc());
+    text.push(b'+')?;
+    let mut chunk = Chunk::new();
+    let line = number_piece(99_999, b'\n');
+    put_two(&mut text, piece_behind(b'e', digits_piece(7)), line, &mut chunk)?;
+    make_room(CHUNK_SIZE - 8, &mut chunk, &mut text)?;
+    assert_eq!(&rt; text.as_slice(), b"+".as_slice());
+    make_room(CHUNK_SIZE, &mut chunk, &mut text)?;
+    assert_eq!(&rt; text.as_slice(), b"+e799999\n".as_slice());
+    assert_eq!(&rt; chunk.room(), CHUNK_SIZE);
     Ok(())
 }
 

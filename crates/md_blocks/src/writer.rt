@@ -10,6 +10,9 @@ use crate::target::Target;
 use md_graph::{NAMES, Set};
 use md_text::{CHUNK_SIZE, Chunk, Piece};
 
+// No piece has more bytes.
+const PIECE_ROOM: usize = 8;
+
 /// Gathers, for each member of a set at or above `from`, ascending, the piece `start` and the one
 /// at the index of the member. What is gathered stands behind the bytes of the target: the chunk
 /// goes to it when there is no room for the pieces of 64 members. A word of the set without members
@@ -43,6 +46,28 @@ pub fn write_members<E, T: Target<E>, const W: usize>(
         write_block(first, bits, start, pieces, chunk);
         next = next_word(set, first + 64, last);
     }
+    Ok(())
+}
+
+/// Gathers two pieces behind the bytes of the chunk; where it has no room for them, the target takes
+/// those first.
+///
+/// # Errors
+///
+/// Those of the target.
+#[inline(always)]
+pub fn put_two<E, T: Target<E>>(
+    target: &mut T,
+    first: Piece,
+    second: Piece,
+    chunk: &mut Chunk,
+) -> Result<(), E>
+    ensures put { OnOk result (T.bytes target.new ++ chunk.new
+        ≡ ((T.bytes target.old ++ chunk.old) ++ piece_text first) ++ piece_text second) }
+    ensures text { OnOk result (T.text target.new ≡ T.text target.old) }
+{
+    make_room(2 * PIECE_ROOM, chunk, target)?;
+    chunk.put_both(first, second);
     Ok(())
 }
 

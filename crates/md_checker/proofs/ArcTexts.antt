@@ -13,8 +13,7 @@ use Rattle.md_graph.specs.Sets.{NameSet, Has}
 use Rattle.md_graph.proofs.GraphLemmas.{adjacent_ends}
 use Rattle.md_text.specs.declared.piece.Piece.{Piece}
 use Rattle.md_text.specs.Numbers.{decimal}
-use Rattle.md_text.specs.Pieces.{piece_text, text_at, texts_at}
-use Rattle.md_tree.specs.Positions.{ArePositions}
+use Rattle.md_text.specs.Pieces.{AreNumerals, piece_text, text_at, texts_at}
 use Rattle.md_forcing.specs.declared.arc.Arc.{Arc}
 use Rattle.md_forcing.specs.declared.arc_set.Side.TheVariants.{Edges}
 use Rattle.md_forcing.specs.Forcing.{arc}
@@ -26,27 +25,11 @@ use Rattle.md_comparability.proofs.Chosen.{chosen_arc}
 use Rattle.md_comparability.proofs.Listing.{arcs_more, arcs_none}
 use Rattle.md_comparability.proofs.Reached.{side_premises}
 use Rattle.md_report.specs.Lines.{arc_text, arcs_text}
+use Rattle.md_report.proofs.ArcTexts.{heads_text}
 use Rattle.md_checker.proofs.Ordering.{holds_item}
 
--- the piece of a name
-name_text : (pieces : List Piece) → ArePositions pieces → (v : ℕ) → v < length pieces → text_at pieces v ≡ decimal v
-name_text pieces are v there =
-    let any : Piece = record { bytes = []; used = 0; within = omega arith } in
-    ap (λ o. option_map_or piece_text o []) (slice_get-get_or pieces v any there) ∙ are.text v any there
-
--- the pieces of one tail's arcs are their text
-pub heads_text : (pieces : List Piece) → ArePositions pieces → (start : List ℕ) (tail : ℕ) → start ≡ 32 ∷ (decimal tail ++ 62 ∷ []) → (heads : List ℕ) → All (λ v. v < length pieces) heads →
-    texts_at pieces start heads ≡ arcs_text (map (arc tail) heads)
-unfolding texts_at
-heads_text pieces are start tail is [] there = refl
-heads_text pieces are start tail is (v ∷ heads) there =
-    let here : text_at pieces v ≡ decimal v = name_text pieces are v (All-head (λ v. v < length pieces) v heads there) in
-    let more : texts_at pieces start heads ≡ arcs_text (map (arc tail) heads) = heads_text pieces are start tail is heads (All-tail (λ v. v < length pieces) v heads there) in
-    (λ i. (is i ++ here i) ++ more i)
-    ∙ ap (λ l. 32 ∷ l ++ arcs_text (map (arc tail) heads)) (append_assoc (decimal tail) (62 ∷ []) (decimal v))
-
 -- the heads of a row are names with a piece
-pub heads_there : (rows : List NameSet) (pieces : List Piece) (tail : ℕ) (heads : NameSet) → ((a : Arc) → HasArc rows a → a.head < length rows) → length pieces ≡ length rows → heads ≡ row_of rows tail →
+pub heads_there : (rows : List NameSet) (pieces : List Piece) (tail : ℕ) (heads : NameSet) → ((a : Arc) → HasArc rows a → a.head < length rows) → length rows ≤ length pieces → heads ≡ row_of rows tail →
     All (λ v. v < length pieces) (ascending heads)
 heads_there rows pieces tail heads within count is k d below =
     let v = get_or (ascending heads) k d in
@@ -59,7 +42,7 @@ heads_there rows pieces tail heads within count is k d below =
 pub arcs_begin : (rows : List NameSet) (before gathered : List ℕ) → gathered ≡ [] → before ++ gathered ≡ before ++ arcs_text (arcs_below rows 0)
 arcs_begin rows before gathered none = ap (λ l. before ++ l) none ∙ sym (ap (λ l. before ++ arcs_text l) (arcs_none rows))
 
-pub arcs_on : (rows : List NameSet) (pieces : List Piece) (start : List ℕ) (tail : ℕ) (heads : NameSet) (before now after : List ℕ) → ArePositions pieces → start ≡ 32 ∷ (decimal tail ++ 62 ∷ []) →
+pub arcs_on : (rows : List NameSet) (pieces : List Piece) (start : List ℕ) (tail : ℕ) (heads : NameSet) (before now after : List ℕ) → AreNumerals pieces → start ≡ 32 ∷ (decimal tail ++ 62 ∷ []) →
     heads ≡ row_of rows tail → All (λ v. v < length pieces) (ascending heads) → now ≡ before ++ arcs_text (arcs_below rows tail) → after ≡ now ++ texts_at pieces start (ascending heads) →
     after ≡ before ++ arcs_text (arcs_below rows (tail + 1))
 arcs_on rows pieces start tail heads before now after are is_start is_row there so put =

@@ -1,8 +1,7 @@
 //! Compares a text with the arcs of a set. No list of them is made.
 ghost use Rattle.std.specs.Prelude.{◌≡◌, ◌++◌, ◌<◌, ◌≤◌, length, take, IfOk, OnOk, IsTrue};
-ghost use Rattle.md_graph.specs.declared.TheConstants.{NAMES};
 ghost use Rattle.md_graph.specs.NameSet.{ascending};
-ghost use Rattle.md_tree.specs.Positions.{ArePositions};
+ghost use Rattle.md_text.specs.Pieces.{AreNumerals};
 ghost use Rattle.md_forcing.specs.declared.arc.Arc.{Arc};
 ghost use Rattle.md_forcing.specs.ArcSet.{HasArc};
 ghost use Rattle.md_comparability.specs.Listed.{arcs_below};
@@ -10,8 +9,8 @@ ghost use Rattle.md_report.specs.Lines.{arcs_text};
 
 use md_blocks::{Compared, Differs, Target, write_members};
 use md_forcing::ArcSetOf;
-use md_graph::{Memory, NAMES};
-use md_text::{Chunk, Piece, digits_piece, number_piece, piece_behind};
+use md_graph::Memory;
+use md_text::{Chunk, Numerals, Piece, number_piece, piece_behind};
 use std::alloc::Global;
 
 // Whether the text spells the arcs of the set in ascending order of tail, then head, a space before
@@ -26,25 +25,13 @@ pub(crate) fn spells_arcs<const W: usize>(
     ensures { IfOk result (λ is. IsTrue is
         → text.now ≡ arcs_text (arcs_below set.now (length set.now))) }
 {
-    let names = spell_names(alloc, set.size())?;
+    let mut names = Numerals::new(alloc);
+    names.spell(set.size())?;
     let mut compared = Compared::new(text);
-    match compare_arcs(set, &names, &mut compared) {
+    match compare_arcs(set, names.as_slice(), &mut compared) {
         Ok(()) => Ok(compared.same == text.len()),
         Err(_) => Ok(false),
     }
-}
-
-// The digits of each name below `size`, at the index of the name.
-fn spell_names(alloc: Global, size: u32) -> Result<Vec<Piece>, Memory>
-    requires { size ≤ NAMES }
-    ensures spelled { IfOk result (λ names. ArePositions names.items) }
-    ensures count { IfOk result (λ names. length names.items ≡ size) }
-{
-    let mut names = Vec::with_capacity(alloc, size as usize)?;
-    for name in 0..size {
-        names.push(digits_piece(name))?;
-    }
-    Ok(names)
 }
 
 // Compares the arcs of the set.
@@ -54,8 +41,8 @@ fn compare_arcs<const W: usize>(
     compared: &mut Compared<'_>,
 ) -> Result<(), Differs>
     requires heads { (a : Arc) → HasArc set.now a → a.head < length set.now }
-    requires names { ArePositions names.now }
-    requires count { length names.now ≡ length set.now }
+    requires names { AreNumerals names.now }
+    requires count { length set.now ≤ length names.now }
     ensures text { OnOk result (compared.new.text.now ≡ compared.old.text.now) }
     ensures same { OnOk result (take compared.new.same compared.new.text.now
         ≡ take compared.old.same compared.old.text.now

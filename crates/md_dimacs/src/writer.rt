@@ -6,7 +6,7 @@ ghost use Rattle.md_graph.specs.Sets.{Has};
 ghost use Rattle.md_dimacs.specs.Places.{ArePlaces, line_start, vertex_lines, edges_text};
 
 use crate::spelling::start_piece;
-use md_blocks::{bits_from, write_block};
+use md_blocks::write_members;
 use md_graph::{GraphOf, Memory, NAMES};
 use md_text::{Chunk, Piece, number_piece, piece_behind, push_number};
 use std::alloc::Global;
@@ -43,8 +43,7 @@ fn begin_text<const W: usize>(alloc: Global, graph: &GraphOf<W>) -> Result<Vec<u
 
 // The place of each vertex, between a space and a line feed, at the index of the vertex.
 fn spell_places<const W: usize>(alloc: Global, graph: &GraphOf<W>) -> Result<Vec<Piece>, Memory>
-    ensures places { IfOk result (λ places. ArePlaces graph.now places.items) }
-    ensures room { IfOk result (λ places. length places.items ≤ 64 * W) }
+    ensures { IfOk result (λ places. ArePlaces graph.now places.items) }
 {
     let vertices = graph.vertices();
     let mut places = Vec::with_capacity(alloc, vertices.count() as usize + 1)?;
@@ -78,8 +77,7 @@ fn write_edges<const W: usize>(
     places: &[Piece],
     text: &mut Vec<u8>,
 ) -> Result<(), Memory>
-    requires places { ArePlaces graph.now places.now }
-    requires room { length places.now ≤ 64 * W }
+    requires { ArePlaces graph.now places.now }
     ensures { OnOk result (text.new.items ≡ text.old.items ++ edges_text graph.now) }
 {
     let mut chunk = Chunk::new();
@@ -91,8 +89,7 @@ fn write_edges<const W: usize>(
     Ok(())
 }
 
-// Gathers the lines of the edges of v to the vertices above it. A chunk with no room for 64 lines
-// of 16 bytes goes to the text.
+// Gathers the lines of the edges of v to the vertices above it.
 fn write_row<const W: usize>(
     graph: &GraphOf<W>,
     v: u32,
@@ -103,20 +100,10 @@ fn write_row<const W: usize>(
 ) -> Result<(), Memory>
     requires name { v < NAMES }
     requires vertex { Has graph.now.vertices v }
-    requires room { length places.now ≤ 64 * W }
     requires start { piece_text start ≡ line_start graph.now v }
     requires places { ArePlaces graph.now places.now }
     ensures { OnOk result (text.new.items ++ chunk.new
         ≡ (text.old.items ++ chunk.old) ++ vertex_lines graph.now v) }
 {
-    let row = graph.neighbours(v);
-    let from = v + 1;
-    let mut first = from / 64 * 64;
-    while (first as usize) < places.len() {
-        chunk.make_room(16 * 64, text)?;
-        let bits = bits_from(row.block(first), from.saturating_sub(first));
-        write_block(first, bits, start, places, chunk);
-        first += 64;
-    }
-    Ok(())
+    write_members(graph.neighbours(v), v + 1, start, places, chunk, text)
 }

@@ -182,11 +182,6 @@ places_there e v pieces j (w ∷ ws) p = here (places_there e v pieces (suc j) w
 
 -- ---- pieces that are gathered
 
--- two pieces behind what is gathered
-pub two_put : (text held moved kept new first second : List ℕ) → moved ++ kept ≡ text ++ held → new ≡ (kept ++ first) ++ second → moved ++ new ≡ ((text ++ held) ++ first) ++ second
-two_put text held moved kept new first second same put =
-    ap (λ l. moved ++ l) put ∙ sym (append_assoc moved (kept ++ first) second) ∙ ap (λ l. l ++ second) (sym (append_assoc moved kept first) ∙ ap (λ l. l ++ first) same)
-
 -- a piece and the one at an index
 pub pair_put : (before mid first : List ℕ) (pieces : List Piece) (i : ℕ) (piece : Piece) → mid ≡ (before ++ first) ++ piece_text piece → piece ≡ get_or pieces i piece → i < length pieces → mid ≡ before ++ (first ++ text_at pieces i)
 pair_put before mid first pieces i piece put is there =

@@ -5,7 +5,6 @@ use Rattle.std.proofs.lemmas.List.Elements.{All-nil, All-cons, All-head, All-app
 use Rattle.std.specs.List.{All}
 use Rattle.md_graph.specs.PlainGraph.{PlainGraph, IsGraph, adjacent}
 use Rattle.md_graph.specs.Sets.{NameSet, Has}
-use Rattle.md_graph.specs.declared.TheConstants.{NAMES}
 use Rattle.md_graph.proofs.SetLemmas.{only_has, union_left, union_right}
 use Rattle.md_text.specs.Numbers.{decimal}
 use Rattle.md_tree.specs.declared.Kind.{Kind}
@@ -21,7 +20,7 @@ use Rattle.md_outline.specs.declared.outline.OutlinePart.TheVariants.{Name, Node
 use Rattle.md_outline.specs.declared.writer.Begun.{Begun}
 use Rattle.md_outline.specs.Outlines.{outline_of, row_outline, outline_option}
 use Rattle.md_outline.specs.NodeRows.{head_list, AreHeadsOf, pairs_by_rows, IsNodeByRows}
-use Rattle.md_outline.specs.BegunNodes.{IsPartNamed, BegunNode, begun_node, begun_nodes, heads_held, parts_left, text_left, HasChildLeft, AreHeld, IsMarkPut, AreBegun, IsDue, IsOnWay, MayGoOn}
+use Rattle.md_outline.specs.BegunNodes.{IsPartBelow, BegunNode, begun_node, begun_nodes, heads_held, parts_left, text_left, HasChildLeft, AreHeld, IsMarkPut, AreBegun, IsDue, IsOnWay, MayGoOn}
 use Rattle.md_outline.proofs.NodeRows.{count_heads, rows_tell}
 
 -- ---- the text of a mark and a name
@@ -292,20 +291,21 @@ module _ (e : ℕ → ℕ → Bool) (s : NameSet) where
 
 -- ---- the names of a tree
 
-mutual
-  parts_named : (t : PlainTree) → ((v : ℕ) → Has (names t) v → v < NAMES) → All IsPartNamed (outline_of t)
-  parts_named (leaf v) below = All-cons IsPartNamed (Name v) [] (below v (only_has v)) (All-nil IsPartNamed)
-  parts_named (node k cs ps) below = All-cons IsPartNamed (Node k (count cs)) (row_outline cs) tt (row_named cs below)
+module _ (limit : ℕ) where
+  mutual
+    parts_below : (t : PlainTree) → ((v : ℕ) → Has (names t) v → v < limit) → All (IsPartBelow limit) (outline_of t)
+    parts_below (leaf v) below = All-cons (IsPartBelow limit) (Name v) [] (below v (only_has v)) (All-nil (IsPartBelow limit))
+    parts_below (node k cs ps) below = All-cons (IsPartBelow limit) (Node k (count cs)) (row_outline cs) tt (row_below cs below)
 
-  row_named : (cs : PlainTrees) → ((v : ℕ) → Has (names_below cs) v → v < NAMES) → All IsPartNamed (row_outline cs)
-  row_named no_tree below = All-nil IsPartNamed
-  row_named (one_more t ts) below =
-      All-append IsPartNamed (outline_of t) (row_outline ts) (parts_named t (λ v h. below v (union_left (names t) (names_below ts) v h)))
-      (row_named ts (λ v h. below v (union_right (names t) (names_below ts) v h)))
+    row_below : (cs : PlainTrees) → ((v : ℕ) → Has (names_below cs) v → v < limit) → All (IsPartBelow limit) (row_outline cs)
+    row_below no_tree below = All-nil (IsPartBelow limit)
+    row_below (one_more t ts) below =
+        All-append (IsPartBelow limit) (outline_of t) (row_outline ts) (parts_below t (λ v h. below v (union_left (names t) (names_below ts) v h)))
+        (row_below ts (λ v h. below v (union_right (names t) (names_below ts) v h)))
 
--- a name that stands in an outline is one of the names
-pub name_named : (parts others : List (OutlinePart Kind)) (at v : ℕ) → All IsPartNamed parts → drop at parts ≡ Name v ∷ others → v < NAMES
-name_named parts others at v named cut = All-head IsPartNamed (Name v) others (subst (All IsPartNamed) cut (All-drop IsPartNamed at parts named))
+  -- a name that stands in an outline is one of the names
+  pub name_below : (parts others : List (OutlinePart Kind)) (at v : ℕ) → All (IsPartBelow limit) parts → drop at parts ≡ Name v ∷ others → v < limit
+  name_below parts others at v below cut = All-head (IsPartBelow limit) (Name v) others (subst (All (IsPartBelow limit)) cut (All-drop (IsPartBelow limit) at parts below))
 
 -- ---- a tree, or none
 
@@ -321,9 +321,11 @@ module _ {g : PlainGraph} (graph : IsGraph g) (parts : List (OutlinePart Kind)) 
   none_left : parts ≡ [] → ⊥
   none_left f = let l : length parts ≡ 0 = ap length f in omega arith
 
-  pub all_named : (t : Option PlainTree) → IsTree (adjacent g) g.vertices t → parts ≡ outline_option t → All IsPartNamed parts
-  all_named None is are = absurd (none_left are)
-  all_named (Some t) is are = subst (All IsPartNamed) (sym are) (parts_named t (λ v h. graph.names v (subst (λ s. Has s v) (tree_names g.vertices t is) h)))
+  pub all_below : (bound limit : ℕ) → bound ≤ limit → ((v : ℕ) → Has g.vertices v → v < bound) → (t : Option PlainTree) → IsTree (adjacent g) g.vertices t → parts ≡ outline_option t → All (IsPartBelow limit) parts
+  all_below bound limit within above None is are = absurd (none_left are)
+  all_below bound limit within above (Some t) is are =
+      subst (All (IsPartBelow limit)) (sym are)
+      (parts_below limit t (λ v h. let low : v < bound = above v (subst (λ s. Has s v) (tree_names g.vertices t is) h) in omega arith))
 
   pub some_tree : (t : Option PlainTree) → IsTree (adjacent g) g.vertices t → parts ≡ outline_option t → (u : PlainTree) × EachNode (IsNodeByRows (adjacent g) g.vertices) u × (parts ≡ outline_of u)
   some_tree None is are = absurd (none_left are)

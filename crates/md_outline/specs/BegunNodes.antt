@@ -1,7 +1,6 @@
 -- A tree of which a part is written, while the rest of its outline is still to come.
 -- Source: the continuation of a traversal, as in any textbook of algorithms.
 use Rattle.std.specs.Prelude.{◌≡◌, ◌⊎◌, ◌<◌, ◌-◌, ℕ, Bool, List, [], ◌∷◌, ◌++◌, ⊤}
-use Rattle.md_graph.specs.declared.TheConstants.{NAMES}
 use Rattle.md_graph.specs.Sets.{NameSet}
 use Rattle.md_tree.specs.declared.Kind.{Kind}
 use Rattle.md_tree.specs.declared.Pair.{Pair}
@@ -14,10 +13,10 @@ use Rattle.md_outline.specs.declared.writer.Begun.{Begun}
 use Rattle.md_outline.specs.Outlines.{outline_of, row_outline}
 use Rattle.md_outline.specs.NodeRows.{head_list, IsNodeByRows}
 
--- the part is a node, or one of the names
-abbrev pub IsPartNamed : OutlinePart Kind → Type 0
-IsPartNamed (Name v) = v < NAMES
-IsPartNamed (Node k n) = ⊤
+-- the part is a node, or a name below the limit
+abbrev pub IsPartBelow : ℕ → OutlinePart Kind → Type 0
+IsPartBelow limit (Name v) = v < limit
+IsPartBelow limit (Node k n) = ⊤
 
 -- a node whose letter is written: its kind, all its children and its pairs; the heads of the children that are finished, those that
 -- are still to come, and the mark before the first of these

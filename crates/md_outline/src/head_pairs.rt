@@ -13,7 +13,7 @@ ghost use Rattle.md_outline.specs.HeadPairs.{near_heads, near_pairs, head_pairs,
 ghost use Rattle.md_outline.specs.NodeRows.{is_edge_up, AreHeadsOf};
 
 use crate::pair_space::PairSpace;
-use md_blocks::{Target, make_room, write_members};
+use md_blocks::{Target, put_two, write_members};
 use md_graph::{GraphOf, Memory, Set};
 use md_text::{CHUNK_SIZE, Chunk, Piece, number_piece, piece_behind};
 use md_tree::{Pair, Paired};
@@ -167,21 +167,4 @@ pub fn put_row<P: Paired, E, T: Target<E>, const W: usize>(
     put_two(target, start, pieces[first as usize], &mut space.chunk)?;
     let start = piece_behind(b',', digits);
     write_members(near, first + 1, start, pieces, &mut space.chunk, target)
-}
-
-// Gathers two pieces; where the chunk has no room for them, the target takes its bytes first.
-#[inline(always)]
-pub(crate) fn put_two<E, T: Target<E>>(
-    target: &mut T,
-    first: Piece,
-    second: Piece,
-    chunk: &mut Chunk,
-) -> Result<(), E>
-    ensures put { OnOk result (T.bytes target.new ++ chunk.new
-        ≡ ((T.bytes target.old ++ chunk.old) ++ piece_text first) ++ piece_text second) }
-    ensures text { OnOk result (T.text target.new ≡ T.text target.old) }
-{
-    make_room(TWO_PIECES, chunk, target)?;
-    chunk.put_both(first, second);
-    Ok(())
 }

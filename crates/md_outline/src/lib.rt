@@ -2,7 +2,6 @@
 #![tactic(auto)]
 
 mod head_pairs;
-mod name_pieces;
 mod outline;
 mod outline_parts;
 mod pair_space;

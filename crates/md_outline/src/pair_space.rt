@@ -1,10 +1,11 @@
 //! What the pairs of a prime node need, whether they are written or compared with a text.
 ghost use Rattle.std.specs.Prelude.{◌≡◌, ◌<◌, ◌≤◌, ◌^◌, ℕ, [], length, get_or, IfOk};
 ghost use Rattle.md_tree.specs.Held.{Ascends};
+ghost use Rattle.md_text.specs.Pieces.{AreNumerals};
 ghost use Rattle.md_outline.specs.HeadPairs.{SpellPositions};
 
 use md_graph::Memory;
-use md_text::{Chunk, Piece, digits_piece};
+use md_text::{Chunk, Numerals, Piece, digits_piece};
 use std::alloc::Global;
 use std::marker::Model;
 
@@ -12,6 +13,7 @@ use std::marker::Model;
 /// They serve many nodes, one after the other, and keep their memory.
 #[derive(Drop)]
 pub struct HeadPlaces {
+    numerals: Numerals,
     pieces: Vec<Piece>,
 }
 
@@ -30,6 +32,7 @@ impl HeadPlaces {
         ensures none { result ≡ [] }
     {
         HeadPlaces {
+            numerals: Numerals::new(alloc),
             pieces: Vec::new(alloc),
         }
     }
@@ -42,7 +45,8 @@ impl HeadPlaces {
         requires few { length heads.now ≤ 10 ^ 5 }
         ensures spelled { IfOk result (λ _. SpellPositions self.new 0 heads.now) }
     {
-        spell_places(&mut self.pieces, heads)
+        self.numerals.spell(heads.len() as u32)?;
+        spell_places(&mut self.pieces, heads, self.numerals.as_slice())
     }
 
     /// The pieces, each at its place.
@@ -78,16 +82,17 @@ impl PairSpace {
 }
 
 // Puts down the position of each head at its place.
-fn spell_places(places: &mut Vec<Piece>, heads: &[u32]) -> Result<(), Memory>
+fn spell_places(places: &mut Vec<Piece>, heads: &[u32], numerals: &[Piece]) -> Result<(), Memory>
     requires some { 0 < length heads.now }
     requires ascending { (i j : ℕ) → i < j → j < length heads.now
         → get_or heads.now i 0 < get_or heads.now j 0 }
-    requires few { length heads.now ≤ 10 ^ 5 }
+    requires numerals { AreNumerals numerals.now }
+    requires there { length heads.now ≤ length numerals.now }
     ensures { IfOk result (λ _. SpellPositions places.new.items 0 heads.now) }
 {
     make_places(places, heads[heads.len() - 1])?;
     for (position, head) in heads.iter().enumerate() {
-        places[*head as usize] = digits_piece(position as u32);
+        places[*head as usize] = numerals[position];
     }
     Ok(())
 }

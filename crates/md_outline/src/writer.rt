@@ -4,7 +4,7 @@ ghost use Rattle.std.specs.List.{All};
 ghost use Rattle.md_graph.specs.PlainGraph.{adjacent};
 ghost use Rattle.md_graph.specs.Sets.{NameSet};
 ghost use Rattle.md_text.specs.Numbers.{decimal};
-ghost use Rattle.md_text.specs.Pieces.{piece_text};
+ghost use Rattle.md_text.specs.Pieces.{AreNumerals, piece_text};
 ghost use Rattle.md_tree.specs.declared.Kind.{Kind};
 ghost use Rattle.md_tree.specs.StrongTrees.{IsTree};
 ghost use Rattle.md_tree.specs.Trees.{PlainTree, EachNode};
@@ -13,14 +13,14 @@ ghost use Rattle.md_outline.specs.declared.outline.OutlinePart.{OutlinePart};
 ghost use Rattle.md_outline.specs.declared.outline.OutlinePart.TheVariants.{Name};
 ghost use Rattle.md_outline.specs.Outlines.{outline_of, outline_option};
 ghost use Rattle.md_outline.specs.NodeRows.{AreHeadsOf, IsNodeByRows, pairs_by_rows};
-ghost use Rattle.md_outline.specs.BegunNodes.{IsPartNamed, HasChildLeft, IsMarkPut, IsOnWay, MayGoOn};
+ghost use Rattle.md_outline.specs.BegunNodes.{IsPartBelow, HasChildLeft, IsMarkPut, IsOnWay, MayGoOn};
 
 use crate::OutlinePart;
-use crate::head_pairs::{put_head_pairs, put_two};
-use crate::name_pieces::NamePieces;
+use crate::head_pairs::put_head_pairs;
 use crate::pair_space::PairSpace;
+use md_blocks::put_two;
 use md_graph::{GraphOf, Memory};
-use md_text::{Chunk, Piece};
+use md_text::{Chunk, Numerals, Piece};
 use md_tree::{Kind, Lettered};
 use std::alloc::Global;
 
@@ -28,9 +28,16 @@ use std::alloc::Global;
 /// and keeps its memory.
 #[derive(Drop)]
 pub struct RowSpace {
+    numerals: Numerals,
+    progress: Progress,
+}
+
+// How far the text of a tree has come: the nodes that are begun, the innermost last; the heads of
+// their finished children; and the end of the text, with what the pairs of a node need.
+#[derive(Drop)]
+struct Progress {
     begun: Vec<Begun>,
     heads: Vec<u32>,
-    names: NamePieces,
     pairs: PairSpace,
 }
 
@@ -48,10 +55,12 @@ impl RowSpace {
     /// Without memory at first.
     pub fn new(alloc: Global) -> RowSpace {
         RowSpace {
-            begun: Vec::new(alloc),
-            heads: Vec::new(alloc),
-            names: NamePieces::new(alloc),
-            pairs: PairSpace::new(alloc),
+            numerals: Numerals::new(alloc),
+            progress: Progress {
+                begun: Vec::new(alloc),
+                heads: Vec::new(alloc),
+                pairs: PairSpace::new(alloc),
+            },
         }
     }
 }
@@ -76,7 +85,9 @@ pub fn push_text_by_rows<const W: usize>(
         text.extend_from_slice(b"empty")?;
         return Ok(());
     }
-    push_tree(text, parts, graph, space)
+    space.numerals.spell(graph.bound())?;
+    let numerals = space.numerals.as_slice();
+    push_tree(text, parts, graph, numerals, &mut space.progress)
 }
 
 // The nodes that are begun stand on a stack of their own, the innermost last, so that no call nests
@@ -86,9 +97,11 @@ fn push_tree<const W: usize>(
     text: &mut Vec<u8>,
     parts: &[OutlinePart<Kind>],
     graph: &GraphOf<W>,
-    space: &mut RowSpace,
+    numerals: &[Piece],
+    progress: &mut Progress,
 ) -> Result<(), Memory>
-    requires named { All IsPartNamed parts.now }
+    requires numerals { AreNumerals numerals.now }
+    requires below { All (IsPartBelow (length numerals.now)) parts.now }
     requires tree { (t : PlainTree)
         × EachNode (IsNodeByRows (adjacent graph.now) graph.now.vertices) t
         × (parts.now ≡ outline_of t) }
@@ -97,49 +110,55 @@ fn push_tree<const W: usize>(
         → parts.now ≡ outline_of t
         → text.new.items ≡ text.old.items ++ tree_text t) }
 {
-    space.begun.clear();
-    space.heads.clear();
-    space.pairs.chunk.clear();
+    progress.begun.clear();
+    progress.heads.clear();
+    progress.pairs.chunk.clear();
     let mut next = 0;
     while next < parts.len() {
-        put_part(text, parts[next], space)?;
+        put_part(text, parts[next], numerals, progress)?;
         next = put_names(
             text,
             parts,
             next + 1,
-            &mut space.begun,
-            &mut space.heads,
-            &mut space.names,
-            &mut space.pairs.chunk,
+            numerals,
+            &mut progress.begun,
+            &mut progress.heads,
+            &mut progress.pairs.chunk,
         )?;
-        put_ends(text, graph, space)?;
+        put_ends(text, graph, progress)?;
     }
-    space.pairs.chunk.flush(text)?;
+    progress.pairs.chunk.flush(text)?;
     Ok(())
 }
 
 // The mark before a part, and the part: a name, or the letter of a node, which then is begun.
-fn put_part(text: &mut Vec<u8>, part: OutlinePart<Kind>, space: &mut RowSpace) -> Result<(), Memory>
-    requires named { IsPartNamed part }
-    requires ready { HasChildLeft space.old.begun.items }
+fn put_part(
+    text: &mut Vec<u8>,
+    part: OutlinePart<Kind>,
+    numerals: &[Piece],
+    progress: &mut Progress,
+) -> Result<(), Memory>
+    requires numerals { AreNumerals numerals.now }
+    requires below { IsPartBelow (length numerals.now) part }
+    requires ready { HasChildLeft progress.old.begun.items }
     ensures { OnOk result ((e : ℕ → ℕ → Bool) (s : NameSet) (whole : List ℕ)
         (others : List (OutlinePart Kind))
-        → MayGoOn e s whole (text.old.items ++ space.old.pairs.chunk) (part ∷ others)
-        space.old.begun.items space.old.heads.items
-        → IsOnWay e s whole (text.new.items ++ space.new.pairs.chunk) others
-        space.new.begun.items space.new.heads.items) }
+        → MayGoOn e s whole (text.old.items ++ progress.old.pairs.chunk) (part ∷ others)
+        progress.old.begun.items progress.old.heads.items
+        → IsOnWay e s whole (text.new.items ++ progress.new.pairs.chunk) others
+        progress.new.begun.items progress.new.heads.items) }
 {
-    let mark = take_mark(&mut space.begun)?;
+    let mark = take_mark(&mut progress.begun)?;
     match part {
         OutlinePart::Name(name) => {
-            let digits = space.names.digits(name)?;
-            put_two(text, mark, digits, &mut space.pairs.chunk)?;
-            space.heads.push(name)?;
+            let digits = numerals[name as usize];
+            put_two(text, mark, digits, &mut progress.pairs.chunk)?;
+            progress.heads.push(name)?;
         }
         OutlinePart::Node(kind, count) => {
             let letter = byte_piece(kind.letter());
-            put_two(text, mark, letter, &mut space.pairs.chunk)?;
-            space.begun.push(Begun {
+            put_two(text, mark, letter, &mut progress.pairs.chunk)?;
+            progress.begun.push(Begun {
                 kind,
                 count,
                 left: count,
@@ -156,12 +175,13 @@ fn put_names(
     text: &mut Vec<u8>,
     parts: &[OutlinePart<Kind>],
     from: usize,
+    numerals: &[Piece],
     begun: &mut Vec<Begun>,
     heads: &mut Vec<u32>,
-    names: &mut NamePieces,
     chunk: &mut Chunk,
 ) -> Result<usize, Memory>
-    requires { All IsPartNamed parts.now }
+    requires numerals { AreNumerals numerals.now }
+    requires below { All (IsPartBelow (length numerals.now)) parts.now }
     ensures written { IfOk result (λ next. (e : ℕ → ℕ → Bool) (s : NameSet) (whole : List ℕ)
         → IsOnWay e s whole (text.old.items ++ chunk.old) (drop from parts.now)
         begun.old.items heads.old.items
@@ -175,7 +195,7 @@ fn put_names(
     heads.reserve(node.left as usize)?;
     let mut next = from;
     while let Some(name) = next_name(parts, next, node.left) {
-        put_two(text, byte_piece(node.mark), names.digits(name)?, chunk)?;
+        put_two(text, byte_piece(node.mark), numerals[name as usize], chunk)?;
         heads.push_reserved(name);
         node.left -= 1;
         node.mark = b',';
@@ -244,23 +264,23 @@ fn empty_piece() -> Piece
 fn put_ends<const W: usize>(
     text: &mut Vec<u8>,
     graph: &GraphOf<W>,
-    space: &mut RowSpace,
+    progress: &mut Progress,
 ) -> Result<(), Memory>
     requires { (whole : List ℕ) × (parts : List (OutlinePart Kind))
         × IsOnWay (adjacent graph.now) graph.now.vertices whole
-        (text.old.items ++ space.old.pairs.chunk) parts
-        space.old.begun.items space.old.heads.items }
+        (text.old.items ++ progress.old.pairs.chunk) parts
+        progress.old.begun.items progress.old.heads.items }
     ensures written { OnOk result ((whole : List ℕ) (parts : List (OutlinePart Kind))
         → IsOnWay (adjacent graph.now) graph.now.vertices whole
-        (text.old.items ++ space.old.pairs.chunk) parts
-        space.old.begun.items space.old.heads.items
+        (text.old.items ++ progress.old.pairs.chunk) parts
+        progress.old.begun.items progress.old.heads.items
         → IsOnWay (adjacent graph.now) graph.now.vertices whole
-        (text.new.items ++ space.new.pairs.chunk) parts
-        space.new.begun.items space.new.heads.items) }
-    ensures ready { OnOk result (HasChildLeft space.new.begun.items) }
+        (text.new.items ++ progress.new.pairs.chunk) parts
+        progress.new.begun.items progress.new.heads.items) }
+    ensures ready { OnOk result (HasChildLeft progress.new.begun.items) }
 {
-    while let Some(node) = pop_ended(&mut space.begun) {
-        put_end(text, node, graph, &mut space.heads, &mut space.pairs)?;
+    while let Some(node) = pop_ended(&mut progress.begun) {
+        put_end(text, node, graph, &mut progress.heads, &mut progress.pairs)?;
     }
     Ok(())
 }

@@ -1,3 +1,4 @@
+pub mod ArcTexts
 pub mod Protocols
 pub mod AllowedGraphs
 pub mod ItemLines

@@ -1,7 +1,8 @@
 -- Short texts that are copied whole.
-use Rattle.std.specs.Prelude.{ℕ, List, [], ◌∷◌, ◌++◌, take, slice_get}
+use Rattle.std.specs.Prelude.{◌≡◌, ℕ, ◌^◌, ◌<◌, ◌≤◌, List, [], ◌∷◌, ◌++◌, length, take, slice_get, slice_index_or}
 use Rattle.std.specs.Option.{option_map_or}
 use Rattle.md_text.specs.declared.piece.Piece.{Piece}
+use Rattle.md_text.specs.Numbers.{decimal}
 
 -- the text of a piece
 abbrev pub piece_text : Piece → List ℕ
@@ -15,3 +16,8 @@ text_at pieces i = option_map_or piece_text (slice_get pieces i) []
 unfoldable pub texts_at : List Piece → List ℕ → List ℕ → List ℕ
 texts_at pieces first [] = []
 texts_at pieces first (i ∷ indices) = (first ++ text_at pieces i) ++ texts_at pieces first indices
+
+-- the piece at each index is that index in digits, and each index has at most five
+pub record AreNumerals (pieces : List Piece) : Type 0 where
+  pub text : (k : ℕ) (other : Piece) → k < length pieces → piece_text (slice_index_or pieces k other) ≡ decimal k
+  pub few : length pieces ≤ 10 ^ 5

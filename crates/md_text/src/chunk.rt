@@ -111,22 +111,6 @@ impl Chunk {
             None => None,
         }
     }
-
-    /// Appends the bytes to a text if there is no room for `more` behind them. Errors: want of
-    /// memory; both then stay.
-    #[inline(always)]
-    pub fn make_room(&mut self, more: usize, text: &mut Vec<u8>) -> Result<(), AllocError>
-        requires { more ≤ CHUNK_SIZE }
-        ensures room { OnOk result (length self.new + more ≤ CHUNK_SIZE) }
-        ensures same { OnOk result (text.new.items ++ self.new ≡ text.old.items ++ self.old) }
-        ensures text_stays { OnErr result (text.new.items ≡ text.old.items) }
-        ensures stays { OnErr result (self.new ≡ self.old) }
-    {
-        if self.room() < more {
-            self.flush(text)?;
-        }
-        Ok(())
-    }
 }
 
 // Writes, for each of the indices, the first piece and the one at that index behind the first `at`

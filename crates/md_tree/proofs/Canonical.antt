@@ -1,5 +1,5 @@
 -- The tree of the strong modules of a graph is as well-formed trees are.
-use Rattle.std.proofs.Common.{◌≡◌, ◌≢◌, ℕ, zero, suc, ◌+◌, ◌<◌, ◌≤◌, Bool, true, false, List, [], Contains, refl, sym, ◌∙◌, subst, inl, inr, arith}
+use Rattle.std.proofs.Common.{◌≡◌, ◌≢◌, ℕ, zero, suc, ◌+◌, ◌≤◌, Bool, true, false, List, [], Contains, refl, sym, ◌∙◌, subst, inl, inr, arith}
 use Rattle.std.specs.FinSet.{contains, empty, len, len-empty, union, intersection, difference}
 use Rattle.std.specs.Ordering.{nat_cmp}
 use Rattle.md_graph.specs.Sets.{NameSet, Has, Within, HasSome, HasTwo}

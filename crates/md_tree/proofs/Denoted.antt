@@ -1,7 +1,7 @@
 -- The graph that a tree denotes, from its edges; pairs of trees that a node lists.
 use Rattle.std.proofs.Common.{◌≡◌, ℕ, ◌+◌, ◌-◌, ◌<◌, Bool, true, false, ◌&&◌, ◌||◌, List, length, get_or, drop, take, map, Contains, nat_lt, Option, Some, refl, sym, ◌∙◌, ap, subst, inl, inr, arith}
 use Rattle.std.proofs.lemmas.List.{at_drop_more, length-drop}
-use Rattle.std.proofs.lemmas.Bool.{lt-ltb, false_from_ne_true, and_parts}
+use Rattle.std.proofs.lemmas.Bool.{lt-ltb, and_parts}
 use Rattle.std.proofs.Math.Seq.{take-length}
 use Rattle.std.specs.FinSet.{contains, empty, union}
 use Rattle.md_graph.specs.declared.TheConstants.{NAMES}
@@ -9,15 +9,15 @@ use Rattle.md_graph.specs.NameSet.{AllBelow}
 use Rattle.md_graph.specs.PlainGraph.{PlainGraph, IsGraph, adjacent, edge, pairs_where}
 use Rattle.md_graph.proofs.GraphLemmas.{contains-pairs_where, contains-edges, adjacent-empty_graph, empty_without_vertices}
 use Rattle.md_graph.proofs.PairLaws.{same_pairs}
-use Rattle.md_graph.specs.Sets.{NameSet, Within, Disjoint}
+use Rattle.md_graph.specs.Sets.{NameSet, Within}
 use Rattle.md_graph.proofs.SetLemmas.{clash, empty_lacks, Has-along, same_members, union_right, of_union}
 use Rattle.md_tree.specs.declared.Kind.{Kind}
 use Rattle.md_tree.specs.declared.Pair.{Pair}
 use Rattle.md_tree.specs.declared.TreeOf.{TreeOf}
 use Rattle.md_tree.specs.Trees.{PlainTree, PlainTrees, names, names_below, names_at, count, row}
 use Rattle.md_tree.specs.Plain.{plain, plain_option}
-use Rattle.md_tree.specs.WellFormed.{AreDisjoint, IsCanonicalTree}
-use Rattle.md_tree.specs.TreeGraph.{position_of, adjacent_in, graph_of_tree}
+use Rattle.md_tree.specs.WellFormed.{IsCanonicalTree}
+use Rattle.md_tree.specs.TreeGraph.{adjacent_in, graph_of_tree}
 use Rattle.md_tree.specs.TreeEdges.{crosses, in_listed, has_edge_in}
 use Rattle.md_text.proofs.Lists.{in_get, to_contains}
 use Rattle.md_tree.proofs.Nodes.{at_inside}

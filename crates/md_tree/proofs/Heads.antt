@@ -2,7 +2,7 @@
 use Rattle.std.proofs.Common.{◌≡◌, ℕ, zero, suc, ◌+◌, ◌<◌, ◌≤◌, List, refl, sym, ap, subst, inl, inr, arith}
 use Rattle.std.specs.FinSet.{insert, len, len-empty}
 use Rattle.std.specs.Ordering.{nat_cmp}
-use Rattle.md_graph.specs.Sets.{NameSet, Has, Lacks}
+use Rattle.md_graph.specs.Sets.{Has, Lacks}
 use Rattle.std.proofs.lemmas.Bool.{false_from_ne_true}
 use Rattle.md_graph.proofs.SetLemmas.{clash, only_has, empty_lacks, insert_new, insert_old, of_insert, union_left}
 use Rattle.md_graph.proofs.Search.{len_more}

@@ -1,8 +1,8 @@
 -- Where the kinds of nodes keep their laws, each set of names with a member has exactly one tree of strong modules.
 use Rattle.std.proofs.Common.{◌≡◌, ◌≢◌, ℕ, zero, suc, ◌+◌, ◌<◌, List, refl, sym, ◌∙◌, ap, subst, inl, inr, arith}
-use Rattle.std.specs.Prelude.{Option, Some, None, ⊤}
+use Rattle.std.specs.Prelude.{Option, Some, None}
 use Rattle.std.specs.FinSet.{contains, empty, len, difference, union}
-use Rattle.md_graph.specs.Sets.{NameSet, Has, Lacks, Within, HasSome, HasTwo, only_name}
+use Rattle.md_graph.specs.Sets.{NameSet, Has, Lacks, Within, HasSome, only_name}
 use Rattle.md_modules.specs.Colours.{AreTold}
 use Rattle.md_modules.specs.Modules.{IsStrong, IsMaximalStrong}
 use Rattle.std.proofs.lemmas.Bool.{cases_Bool, false_from_ne_true}
@@ -14,7 +14,7 @@ use Rattle.md_tree.specs.StrongTrees.{StandBy, IsNodeBy, IsTreeBy, IsTreeOrNone}
 use Rattle.md_tree.specs.NodeKinds.{IsLeft, AreKinds}
 use Rattle.md_tree.specs.WellFormed.{AreDisjoint}
 use Rattle.md_text.proofs.Lists.{In, Later, of_append, in_left, in_right, of_contains, to_contains, to_pairs, later_append}
-use Rattle.md_tree.proofs.Nodes.{IsChild, Differ, own_set, set_inside, sets_inside, child_inside, child_of_name, child_of_set}
+use Rattle.md_tree.proofs.Nodes.{IsChild, Differ, set_inside, sets_inside, child_inside, child_of_name, child_of_set}
 use Rattle.md_tree.proofs.Built.{IsChildSet, IsBuiltBy, children_maximal, tree_names, tree_built}
 
 -- a set without a part of it, and that part

@@ -1,5 +1,5 @@
 -- How texts go on behind a part that is read, and where they can't.
-use Rattle.std.proofs.Common.{◌≡◌, ◌≢◌, ℕ, ◌+◌, ◌<◌, ◌≤◌, Bool, true, false, List, [], ◌∷◌, ◌++◌, length, get_or, take, drop, zero, suc, true≢false, append_assoc, append-nil, refl, sym, ◌∙◌, ap, subst, inl, inr, arith}
+use Rattle.std.proofs.Common.{◌≡◌, ◌≢◌, ℕ, ◌<◌, ◌≤◌, Bool, true, false, List, [], ◌∷◌, ◌++◌, length, get_or, take, drop, zero, suc, true≢false, append_assoc, append-nil, refl, sym, ◌∙◌, ap, subst, inl, inr, arith}
 use Rattle.std.specs.Prelude.{Result, Ok, Err, IfErr}
 use Rattle.md_text.specs.Numbers.{decimal, value, IsCanonical}
 use Rattle.std.specs.Char.{is_ascii_digit}
@@ -12,7 +12,7 @@ use Rattle.md_tree.specs.TreeTexts.{pairs_text_by, tree_text_by, row_text_by}
 use Rattle.md_tree.specs.Grammar.{HasPairsIf, IsSpelledNode}
 use Rattle.md_text.specs.Fronts.{IsDigit, IsPastDigits, LacksFirst}
 use Rattle.md_tree.specs.Languages.{HeadsAgree, IsTreeText, Tail, TreeThen, NumberThen, ByteThen, PairsThen, PairThen, GoesOn, IsStuck, IsNumberBefore, IsNoNumber, outermost_first}
-use Rattle.md_text.proofs.FrontLemmas.{same_number, number_first, stops_at, number_no_stop, zero_alone}
+use Rattle.md_text.proofs.FrontLemmas.{same_number, number_first, number_no_stop, zero_alone}
 use Rattle.md_tree.proofs.Texts.{pairs_stop, pair_spelled, row_stops, pairs_end, node_spelled, row_spelled}
 
 agree_more : (tail front x : List ℕ) → HeadsAgree tail x → HeadsAgree (front ++ tail) (front ++ x)

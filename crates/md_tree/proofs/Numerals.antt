@@ -1,5 +1,5 @@
 -- Pairs read from their digits.
-use Rattle.std.proofs.Common.{◌≡◌, ◌≢◌, ℕ, suc, ◌+◌, ◌-◌, ◌*◌, ◌/◌, ◌%◌, ◌^◌, ◌<◌, ◌≤◌, Bool, true, false, List, [], ◌∷◌, ◌++◌, length, append_assoc, length-append, refl, sym, ◌∙◌, ap, subst, inl, inr, arith}
+use Rattle.std.proofs.Common.{◌≡◌, ◌≢◌, ℕ, suc, ◌+◌, ◌<◌, ◌≤◌, Bool, true, false, List, [], ◌∷◌, ◌++◌, length, append_assoc, length-append, refl, sym, ◌∙◌, ap, subst, inl, inr, arith}
 use Rattle.std.specs.Prelude.{◌↔◌, IsTrue}
 use Rattle.std.proofs.lemmas.Bool.{cases_lt}
 use Rattle.md_graph.specs.declared.TheConstants.{NAMES}
@@ -9,7 +9,7 @@ use Rattle.md_text.proofs.Lists.{In, of_contains, to_contains, of_pairs, to_pair
 use Rattle.md_tree.specs.Spellings.{PairRules, ArePairRules, IsPairBeforeBy}
 use Rattle.md_tree.specs.TreeTexts.{pairs_text_by}
 use Rattle.md_text.specs.Fronts.{IsDigit, IsPastDigits, LacksFirst, LacksNumber, IsNumberSplit}
-use Rattle.md_tree.specs.Held.{MayListIf, IsSmall, AreSmall, mark_of, pair_before, ArePairsRead, LacksPair, LacksPairs, LacksEnd, MayFollow, EachMayFollow, no_pair, AreListed, last_behind, HasRead}
+use Rattle.md_tree.specs.Held.{MayListIf, AreSmall, mark_of, pair_before, ArePairsRead, LacksPair, LacksPairs, LacksEnd, MayFollow, EachMayFollow, no_pair, AreListed, last_behind, HasRead}
 use Rattle.md_text.proofs.FrontLemmas.{same_number, stops_at}
 use Rattle.md_tree.proofs.Texts.{pairs_stop, pair_spelled, same_pairs}
 

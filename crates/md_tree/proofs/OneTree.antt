@@ -1,5 +1,5 @@
 -- Each graph has exactly one tree of strong modules, or none where it has no vertex; and what that tree tells.
-use Rattle.std.proofs.Common.{◌≡◌, ℕ, true, ◌&&◌, Option, Some, None, sym, ◌∙◌, subst}
+use Rattle.std.proofs.Common.{◌≡◌, true, ◌&&◌, Option, Some, None, sym, ◌∙◌, subst}
 use Rattle.std.proofs.lemmas.Bool.{and_parts, and_from}
 use Rattle.std.specs.Cmp.{both_ways}
 use Rattle.std.specs.FinSet.{contains}
@@ -7,7 +7,7 @@ use Rattle.md_graph.specs.declared.TheConstants.{NAMES}
 use Rattle.md_graph.specs.NameSet.{AllBelow}
 use Rattle.md_graph.specs.PlainGraph.{PlainGraph, adjacent}
 use Rattle.md_graph.proofs.GraphLemmas.{adjacent_sym, adjacent_ends, empty_without_vertices}
-use Rattle.md_graph.specs.Sets.{NameSet, Has}
+use Rattle.md_graph.specs.Sets.{Has}
 use Rattle.md_graph.specs.Adjacency.{IsAdjacency}
 use Rattle.md_graph.proofs.SetLemmas.{Has-along}
 use Rattle.md_graph.proofs.Search.{decide_test}

@@ -1,6 +1,5 @@
 -- A text that begins with the text of a tree tells the tree and where it ends.
-use Rattle.std.proofs.Common.{◌≡◌, ◌≢◌, ℕ, ◌<◌, ◌≤◌, ◌⊎◌, List, [], ◌∷◌, ◌++◌, Some, None, codes, append_assoc, append-nil, refl, sym, ◌∙◌, ap, inl, inr, arith}
-use Rattle.std.specs.Prelude.{⊤}
+use Rattle.std.proofs.Common.{◌≡◌, ◌≢◌, ℕ, ◌≤◌, ◌⊎◌, List, [], ◌∷◌, ◌++◌, Some, None, codes, append_assoc, append-nil, refl, sym, ◌∙◌, ap, inl, inr, arith}
 use Rattle.md_text.specs.Numbers.{decimal}
 use Rattle.md_text.proofs.FrontLemmas.{same_number, number_first, stops_at}
 use Rattle.md_tree.specs.Trees.{PlainTreeOf, PlainTreesOf, leaf, node, no_tree, one_more}

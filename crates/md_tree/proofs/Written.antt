@@ -6,10 +6,10 @@ use Rattle.std.proofs.lemmas.Option.{slice_get-get_or}
 use Rattle.std.proofs.lemmas.List.Elements.{All-cons, All-nil}
 use Rattle.md_text.specs.Numbers.{decimal}
 use Rattle.md_text.specs.declared.piece.Piece.{Piece}
-use Rattle.md_text.specs.Pieces.{piece_text, text_at, texts_at}
+use Rattle.md_text.specs.Pieces.{AreNumerals, piece_text, text_at, texts_at}
 use Rattle.md_tree.specs.Spellings.{PairRules}
 use Rattle.md_text.specs.Fronts.{BeginsWith}
-use Rattle.md_tree.specs.Positions.{ArePositions, AreSeconds, IsSecond}
+use Rattle.md_tree.specs.Positions.{AreSeconds, IsSecond}
 use Rattle.md_tree.specs.TreeTexts.{pairs_text_by}
 
 -- a pair behind gathered bytes, and then those that were gathered after it
@@ -37,7 +37,7 @@ pub begins_more : {a b c : List ℕ} → BeginsWith b a → (more : List ℕ) �
 begins_more first more e = begins_on first (record { rest = more; whole = e })
 
 -- a position is spelled by the piece at its index
-pub second_is : {P : Type 0} (r : PairRules P) (pieces : List Piece) (first : Piece) (low second : ℕ) (pair : P) → ArePositions pieces → piece_text first ≡ 44 ∷ (decimal low ++ r.between ∷ []) →
+pub second_is : {P : Type 0} (r : PairRules P) (pieces : List Piece) (first : Piece) (low second : ℕ) (pair : P) → AreNumerals pieces → piece_text first ≡ 44 ∷ (decimal low ++ r.between ∷ []) →
     (r.first pair ≡ low) × (second ≡ r.second pair) × (second < length pieces) → IsSecond r pieces first pair second
 second_is r pieces first low second pair are start is = record {
   there = is.2;

@@ -1,7 +1,7 @@
 -- The grammar of the texts of trees, in which names and positions are any numbers, and where bytes leave it.
 -- Source: context-free languages and their prefixes, as in any textbook of formal languages.
 use Rattle.std.specs.Prelude.{◌≡◌, ◌≢◌, ◌<◌, ◌≤◌, ℕ, Bool, true, false, List, [], ◌++◌, length, take, ⊤, Option, Some, None}
-use Rattle.md_tree.specs.Trees.{PlainTreeOf, PlainTreesOf, PlainTree, count, EachNode}
+use Rattle.md_tree.specs.Trees.{PlainTreeOf, PlainTreesOf, count, EachNode}
 use Rattle.md_tree.specs.Spellings.{Spelling, graph_spelling}
 use Rattle.md_tree.specs.TreeTexts.{text_of_by}
 

@@ -1,6 +1,6 @@
 -- What may come behind a front of a text of the grammar: the front alone tells it by the kinds of the nodes that are open.
 -- Source: residuals (left quotients) of languages, as in any textbook of formal languages.
-use Rattle.std.specs.Prelude.{◌≡◌, ◌≢◌, ◌<◌, ◌⊎◌, ℕ, Bool, true, false, List, [], ◌∷◌, ◌++◌, length}
+use Rattle.std.specs.Prelude.{◌≡◌, ◌<◌, ◌⊎◌, ℕ, Bool, true, false, List, [], ◌∷◌, ◌++◌, length}
 use Rattle.md_text.specs.Numbers.{decimal}
 use Rattle.md_text.specs.Fronts.{IsPastDigits}
 use Rattle.md_tree.specs.declared.grammar.Turn.{Turn}

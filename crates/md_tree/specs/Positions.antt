@@ -1,5 +1,5 @@
 -- The positions of children, spelled as pieces of text.
-use Rattle.std.specs.Prelude.{◌≡◌, ℕ, ◌++◌, ◌^◌, ◌<◌, ◌≤◌, List, [], ◌∷◌, length, slice_index_or}
+use Rattle.std.specs.Prelude.{◌≡◌, ℕ, ◌++◌, ◌<◌, List, [], ◌∷◌, length}
 use Rattle.std.specs.List.{All}
 use Rattle.md_text.specs.declared.piece.Piece.{Piece}
 use Rattle.md_text.specs.Numbers.{decimal}
@@ -7,11 +7,6 @@ use Rattle.md_text.specs.Pieces.{piece_text, text_at, texts_at}
 use Rattle.md_tree.specs.declared.pair_writer.Start.{Start}
 use Rattle.md_tree.specs.Spellings.{PairRules}
 use Rattle.md_tree.specs.TreeTexts.{pairs_text_by}
-
--- the piece at each index is that index in digits, and each index has at most five
-pub record ArePositions (pieces : List Piece) : Type 0 where
-  pub text : (k : ℕ) (other : Piece) → k < length pieces → piece_text (slice_index_or pieces k other) ≡ decimal k
-  pub few : length pieces ≤ 10 ^ 5
 
 -- the piece spells a comma, the first position of pairs, and their mark
 abbrev pub IsStart : {P : Type 0} → PairRules P → Start → Type 0

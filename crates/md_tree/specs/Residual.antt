@@ -1,6 +1,6 @@
 -- What may still come of a tree's text, where a part of it is read.
 -- Source: residuals (left quotients) of languages, as in any textbook of formal languages.
-use Rattle.std.specs.Prelude.{◌≡◌, ◌≤◌, ℕ, List, [], ◌∷◌, ◌++◌, ⊤}
+use Rattle.std.specs.Prelude.{◌≡◌, ℕ, List, [], ◌∷◌, ◌++◌}
 use Rattle.md_tree.specs.Trees.{PlainTreeOf, PlainTreesOf, node, one_more}
 use Rattle.md_tree.specs.Spellings.{Spelling}
 use Rattle.md_tree.specs.TreeTexts.{pairs_text_by, row_text_by, tree_text_by}

@@ -1,14 +1,14 @@
 //! Writes the pairs of a node.
 ghost use Rattle.std.specs.Prelude.{◌≡◌, ◌+◌, ◌-◌, ◌*◌, ◌^◌, ◌<◌, ◌≤◌, [], ◌∷◌, ◌++◌, length, drop, IsTrue, IfSome, OnOk, OnErr};
 ghost use Rattle.md_text.specs.Numbers.{decimal};
-ghost use Rattle.md_text.specs.Pieces.{piece_text};
+ghost use Rattle.md_text.specs.Pieces.{AreNumerals, piece_text};
 ghost use Rattle.md_text.specs.Fronts.{BeginsWith};
-ghost use Rattle.md_tree.specs.Positions.{ArePositions, AreSeconds, IsStart};
+ghost use Rattle.md_tree.specs.Positions.{AreSeconds, IsStart};
 ghost use Rattle.md_tree.specs.TreeTexts.{pairs_text_by};
 
 use crate::{Paired, PairsOf};
 use md_graph::Memory;
-use md_text::{CHUNK_SIZE, Chunk, Piece, digits_piece, number_piece, piece_behind, push_number};
+use md_text::{CHUNK_SIZE, Chunk, Numerals, Piece, number_piece, piece_behind, push_number};
 use std::alloc::Global;
 
 // So many positions have at most five digits.
@@ -24,15 +24,14 @@ const PAIR_ROOM: usize = 16;
 /// in which pairs are gathered.
 #[derive(Drop)]
 pub struct Workspace {
-    positions: Vec<Piece>,
+    positions: Numerals,
     chunk: Chunk,
-    ghost spelled: { ArePositions positions.items },
 }
 
 impl Workspace {
     pub(crate) fn new(alloc: Global) -> Self {
         Workspace {
-            positions: Vec::new(alloc),
+            positions: Numerals::new(alloc),
             chunk: Chunk::new(),
         }
     }
@@ -60,11 +59,12 @@ pub(crate) fn push_pairs<P: Paired>(
     if pairs.list.is_empty() {
         return Ok(());
     }
-    spell_positions(&mut space.positions, count)?;
-    let room = pair_room(&space.positions, count);
+    space.positions.spell(count.min(MOST_POSITIONS) as u32)?;
+    let positions = space.positions.as_slice();
+    let room = pair_room(positions, count);
     text.reserve(pairs.list.len().saturating_mul(room))?;
     push_pair(text, b';', pairs.list[0])?;
-    push_more(text, &pairs.list[1..], &space.positions, &mut space.chunk)
+    push_more(text, &pairs.list[1..], positions, &mut space.chunk)
 }
 
 // How many bytes a pair of positions below `count` has at most, with the mark before it.
@@ -76,20 +76,6 @@ fn pair_room(positions: &[Piece], count: usize) -> usize {
     2 * digits + 2
 }
 
-// Appends positions until there are `count` of them, or as many as have five digits.
-fn spell_positions(positions: &mut Vec<Piece>, count: usize) -> Result<(), Memory>
-    requires { ArePositions positions.old.items }
-    ensures { ArePositions positions.new.items }
-{
-    let most = count.min(MOST_POSITIONS);
-    positions.reserve(most.saturating_sub(positions.len()))?;
-    while positions.len() < most {
-        let piece = digits_piece(positions.len() as u32);
-        positions.push(piece)?;
-    }
-    Ok(())
-}
-
 // The pairs behind the first.
 fn push_more<P: Paired>(
     text: &mut Vec<u8>,
@@ -97,7 +83,7 @@ fn push_more<P: Paired>(
     positions: &[Piece],
     chunk: &mut Chunk,
 ) -> Result<(), Memory>
-    requires { ArePositions positions.now }
+    requires { AreNumerals positions.now }
     ensures written { OnOk result (text.new.items
         ≡ text.old.items ++ pairs_text_by P.rules 44 pairs.now) }
     ensures begun { OnErr result (BeginsWith text.new.items text.old.items) }
@@ -123,7 +109,7 @@ fn put_run<P: Paired>(
     start: Start,
     chunk: &mut Chunk,
 ) -> usize
-    requires positions { ArePositions positions.now }
+    requires positions { AreNumerals positions.now }
     requires start { IsStart P.rules start }
     requires from { from ≤ length pairs.now }
     ensures behind { from ≤ result }
@@ -147,7 +133,7 @@ fn put_fours<P: Paired>(
     start: Start,
     chunk: &mut Chunk,
 ) -> usize
-    requires positions { ArePositions positions.now }
+    requires positions { AreNumerals positions.now }
     requires start { IsStart P.rules start }
     requires from { from ≤ end }
     requires end { end ≤ length pairs.now }
@@ -178,7 +164,7 @@ fn four_seconds<P: Paired>(
     positions: &[Piece],
     start: Start,
 ) -> Option<[u32; 4]>
-    requires positions { ArePositions positions.now }
+    requires positions { AreNumerals positions.now }
     requires start { IsStart P.rules start }
     requires place { place + 4 ≤ length pairs.now }
     ensures { IfSome result (λ seconds. AreSeconds P.rules positions.now start.piece seconds
@@ -214,7 +200,7 @@ fn put_others<P: Paired>(
     start: Start,
     chunk: &mut Chunk,
 ) -> usize
-    requires positions { ArePositions positions.now }
+    requires positions { AreNumerals positions.now }
     requires start { IsStart P.rules start }
     requires from { from ≤ end }
     requires end { end ≤ length pairs.now }
@@ -241,7 +227,7 @@ fn put_pair<P: Paired>(
     start: &mut Start,
     chunk: &mut Chunk,
 ) -> Result<(), Memory>
-    requires positions { ArePositions positions.now }
+    requires positions { AreNumerals positions.now }
     requires start { IsStart P.rules start.old }
     ensures written { OnOk result (text.new.items ++ chunk.new
         ≡ (text.old.items ++ chunk.old) ++ 44 ∷ (decimal (P.rules.first pair)

@@ -40,8 +40,8 @@ loop-v-preserved g c =
           (c.piece_behind-piece.ensures.text ∙ ap (λ l. 32 ∷ l) c.number_piece.ensures.text) (omega (arith, c.piece_behind-piece.ensures.count)) c.loop-v.invariant.spelled w m (omega (arith, c.in_ok-fill_up.ensures.count));
     }
 
-pub returns-clause-places : goal.returns-clause-places
-returns-clause-places g c =
+pub returns : goal.returns
+returns g c =
     let few = words_few g.row.W c.vertices-vertices.ensures.limit in
     record {
       place_of = λ w m.
@@ -49,6 +49,3 @@ returns-clause-places g c =
           (walk_end c.args.graph.now.vertices (vec_len c.loop-v.places) NAMES _ _ c.vertices-vertices.ensures.graph.names c.loop-v.invariant.coming.left c.in-None.ensures.steps w m);
       named = let count = c.loop-v.places.ok.0 in omega (arith, c.loop-v.invariant.named, few);
     }
-
-pub returns-clause-room : goal.returns-clause-room
-returns-clause-room g c = let count = c.loop-v.places.ok.0 in omega (arith, c.loop-v.invariant.named)

@@ -39,11 +39,11 @@ place_of_next : (g : PlainGraph) (places : List Piece) (low v : ℕ) (left rest 
 place_of_next g places low v left rest are is steps = are.place_of v (walk_turn g.vertices low NAMES v left rest is steps).item.member
 
 pub bounds-places-v : goal.bounds-places-v
-bounds-places-v g c = (place_of_next c.args.graph.now c.args.places.now c.loop-v.invariant.coming.0 c.in-Some.v _ _ c.requires.places c.loop-v.invariant.coming.1 c.in-Some.ensures.steps).there
+bounds-places-v g c = (place_of_next c.args.graph.now c.args.places.now c.loop-v.invariant.coming.0 c.in-Some.v _ _ c.requires c.loop-v.invariant.coming.1 c.in-Some.ensures.steps).there
 
 pub start_piece-start-requires : goal.start_piece-start-requires
 start_piece-start-requires g c =
-    let start = start_of c.args.graph.now c.args.places.now c.in-Some.v (place_of_next c.args.graph.now c.args.places.now c.loop-v.invariant.coming.0 c.in-Some.v _ _ c.requires.places c.loop-v.invariant.coming.1 c.in-Some.ensures.steps) in
+    let start = start_of c.args.graph.now c.args.places.now c.in-Some.v (place_of_next c.args.graph.now c.args.places.now c.loop-v.invariant.coming.0 c.in-Some.v _ _ c.requires c.loop-v.invariant.coming.1 c.in-Some.ensures.steps) in
     record {
       some = rw c.index-places-v.is (start.some c.index-places-v.result);
       short = rw c.index-places-v.is (start.short c.index-places-v.result);
@@ -52,9 +52,9 @@ start_piece-start-requires g c =
 pub write_row-requires : goal.write_row-requires
 write_row-requires g c =
     let turn = walk_turn c.args.graph.now.vertices c.loop-v.invariant.coming.0 NAMES c.in-Some.v _ _ c.loop-v.invariant.coming.1 c.in-Some.ensures.steps in
-    let place = c.requires.places.place_of c.in-Some.v turn.item.member in
+    let place = c.requires.place_of c.in-Some.v turn.item.member in
     let start = c.start_piece-start.ensures (32 ∷ decimal (position c.args.graph.now c.in-Some.v)) 10 (ap piece_text c.index-places-v.is ∙ place.text c.index-places-v.result) in
-    (search rules, (turn.item.below, (turn.item.member, (c.requires.room, (start, c.requires.places)))))
+    (search rules, (turn.item.below, (turn.item.member, (start, c.requires))))
 
 pub loop-v-preserved : goal.loop-v-preserved
 loop-v-preserved g c =

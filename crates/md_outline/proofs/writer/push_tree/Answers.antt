@@ -1,10 +1,10 @@
-use Rattle.std.proofs.Common.{◌++◌, ◌+◌, ◌∙◌, append-nil, drop, sym, ap, subst, inr, rules, arith}
+use Rattle.std.proofs.Common.{length, ◌++◌, ◌+◌, ◌∙◌, append-nil, drop, sym, ap, subst, inr, rules, arith}
 use Rattle.std.proofs.lemmas.List.{drop_all, drop_more}
 use Rattle.std.proofs.lemmas.List.Elements.{All-get_or}
 use Rattle.md_graph.specs.PlainGraph.{adjacent}
 use Rattle.md_tree.specs.TreeTexts.{tree_text}
 use Rattle.md_outline.specs.declared.outline.OutlinePart.TheVariants.{Name}
-use Rattle.md_outline.specs.BegunNodes.{IsPartNamed, MayGoOn}
+use Rattle.md_outline.specs.BegunNodes.{IsPartBelow, MayGoOn}
 use Rattle.md_outline.proofs.Writing.{ready_none, may_begin, all_written}
 use Rattle.md_outline.proofs.writer.push_tree.Goals as goal
 
@@ -18,7 +18,11 @@ loop-next-init g c = record {
 }
 
 pub put_part-requires : goal.put_part-requires
-put_part-requires g c = record { named = All-get_or IsPartNamed c.args.parts.now c.loop-next.next (Name 0) c.loop-next-test.true c.requires.named; ready = c.loop-next.invariant.ready }
+put_part-requires g c = record {
+  numerals = c.requires.numerals;
+  below = All-get_or (IsPartBelow (length c.args.numerals.now)) c.args.parts.now c.loop-next.next (Name 0) c.loop-next-test.true c.requires.below;
+  ready = c.loop-next.invariant.ready;
+}
 
 pub put_ends-requires : goal.put_ends-requires
 put_ends-requires g c =
@@ -31,7 +35,7 @@ put_ends-requires g c =
         whole,
         drop c.in_ok-next.next c.args.parts.now,
         c.in_ok-next.ensures.written e s whole (c.in_ok-put_part.ensures e s whole (drop (c.loop-next.next + 1) c.args.parts.now)
-            (subst (λ l. MayGoOn e s whole (c.loop-next.text.items ++ c.loop-next.space.pairs.chunk) l c.loop-next.space.begun.items c.loop-next.space.heads.items) (drop_more c.args.parts.now c.loop-next.next _ (grind (arith, c.loop-next-test.true))) go)),
+            (subst (λ l. MayGoOn e s whole (c.loop-next.text.items ++ c.loop-next.progress.pairs.chunk) l c.loop-next.progress.begun.items c.loop-next.progress.heads.items) (drop_more c.args.parts.now c.loop-next.next _ (grind (arith, c.loop-next-test.true))) go)),
       ),
     )
 
@@ -44,12 +48,12 @@ loop-next-preserved g c =
       written = λ t each are.
           let whole = c.args.text.now.items ++ tree_text t in
           inr (c.in_ok-put_ends.ensures.written whole (drop c.in_ok-next.next c.args.parts.now) (c.in_ok-next.ensures.written e s whole (c.in_ok-put_part.ensures e s whole (drop (c.loop-next.next + 1) c.args.parts.now)
-          (subst (λ l. MayGoOn e s whole (c.loop-next.text.items ++ c.loop-next.space.pairs.chunk) l c.loop-next.space.begun.items c.loop-next.space.heads.items) (drop_more c.args.parts.now c.loop-next.next _ (grind (arith, c.loop-next-test.true))) (c.loop-next.invariant.written t each are)))));
+          (subst (λ l. MayGoOn e s whole (c.loop-next.text.items ++ c.loop-next.progress.pairs.chunk) l c.loop-next.progress.begun.items c.loop-next.progress.heads.items) (drop_more c.args.parts.now c.loop-next.next _ (grind (arith, c.loop-next-test.true))) (c.loop-next.invariant.written t each are)))));
     }
 
 pub returns : goal.returns
 returns g c t each are =
     c.in_ok-flush.ensures.appended
-    ∙ all_written (adjacent c.args.graph.now) c.args.graph.now.vertices (c.args.text.now.items ++ tree_text t) (c.loop-next.text.items ++ c.loop-next.space.pairs.chunk) c.loop-next.space.begun.items c.loop-next.space.heads.items c.loop-next.invariant.ready
-    (subst (λ l. MayGoOn (adjacent c.args.graph.now) c.args.graph.now.vertices (c.args.text.now.items ++ tree_text t) (c.loop-next.text.items ++ c.loop-next.space.pairs.chunk) l c.loop-next.space.begun.items c.loop-next.space.heads.items)
+    ∙ all_written (adjacent c.args.graph.now) c.args.graph.now.vertices (c.args.text.now.items ++ tree_text t) (c.loop-next.text.items ++ c.loop-next.progress.pairs.chunk) c.loop-next.progress.begun.items c.loop-next.progress.heads.items c.loop-next.invariant.ready
+    (subst (λ l. MayGoOn (adjacent c.args.graph.now) c.args.graph.now.vertices (c.args.text.now.items ++ tree_text t) (c.loop-next.text.items ++ c.loop-next.progress.pairs.chunk) l c.loop-next.progress.begun.items c.loop-next.progress.heads.items)
     (drop_all c.loop-next.next c.args.parts.now (grind (arith, c.loop-next-test.false))) (c.loop-next.invariant.written t each are))

@@ -9,9 +9,9 @@ use Rattle.md_outline.proofs.writer.push_tree.Given as goal
 
 abbrev pub invariant-loop-next : goal.invariant-loop-next
 invariant-loop-next g l = record {
-  ready : HasChildLeft l.space.begun.items;
+  ready : HasChildLeft l.progress.begun.items;
   written : (t : PlainTree) → EachNode (IsNodeByRows (adjacent l.graph) l.graph.vertices) t → l.parts ≡ outline_of t →
-      MayGoOn (adjacent l.graph) l.graph.vertices (l.fn.text.items ++ tree_text t) (l.text.items ++ l.space.pairs.chunk) (drop l.next l.parts) l.space.begun.items l.space.heads.items;
+      MayGoOn (adjacent l.graph) l.graph.vertices (l.fn.text.items ++ tree_text t) (l.text.items ++ l.progress.pairs.chunk) (drop l.next l.parts) l.progress.begun.items l.progress.heads.items;
 }
 
 abbrev pub decreases-loop-next : goal.decreases-loop-next

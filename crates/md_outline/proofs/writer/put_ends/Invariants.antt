@@ -6,8 +6,8 @@ use Rattle.md_outline.specs.BegunNodes.{IsOnWay}
 use Rattle.md_outline.proofs.writer.put_ends.Given as goal
 
 abbrev pub invariant-loop-node : goal.invariant-loop-node
-invariant-loop-node g l = (whole : List ℕ) (parts : List (OutlinePart Kind)) → IsOnWay (adjacent l.graph) l.graph.vertices whole (l.fn.text.items ++ l.fn.space.pairs.chunk) parts l.fn.space.begun.items l.fn.space.heads.items →
-    IsOnWay (adjacent l.graph) l.graph.vertices whole (l.text.items ++ l.space.pairs.chunk) parts l.space.begun.items l.space.heads.items
+invariant-loop-node g l = (whole : List ℕ) (parts : List (OutlinePart Kind)) → IsOnWay (adjacent l.graph) l.graph.vertices whole (l.fn.text.items ++ l.fn.progress.pairs.chunk) parts l.fn.progress.begun.items l.fn.progress.heads.items →
+    IsOnWay (adjacent l.graph) l.graph.vertices whole (l.text.items ++ l.progress.pairs.chunk) parts l.progress.begun.items l.progress.heads.items
 
 abbrev pub decreases-loop-node : goal.decreases-loop-node
-decreases-loop-node g l = vec_len l.space.begun
+decreases-loop-node g l = vec_len l.progress.begun

@@ -1,9 +1,9 @@
-use Rattle.std.proofs.Common.{◌≡◌, ◌≤◌, ◌<◌, ℕ, Bool, true, false, List, length, map, true≢false, refl, sym, ◌∙◌, subst, arith}
+use Rattle.std.proofs.Common.{◌≡◌, ◌≤◌, ℕ, Bool, true, false, List, map, true≢false, refl, sym, ◌∙◌, subst, arith}
 use Rattle.std.proofs.lemmas.List.{length-map}
 use Rattle.std.specs.Prelude.{◌↔◌, IsTrue}
 use Rattle.md_tree.specs.Trees.{PlainTreesOf, count, row}
 use Rattle.md_tree.specs.Plain.{plain}
-use Rattle.md_tree.specs.Held.{MayHave, HasOthersIf, AscendsIf, Ascends}
+use Rattle.md_tree.specs.Held.{HasOthersIf, AscendsIf, Ascends}
 use Rattle.md_tree.proofs.Folding.{count_row}
 use Rattle.md_tree.proofs.builder.may_have.Goals as goal
 

@@ -1,4 +1,4 @@
-use Rattle.std.proofs.Common.{◌≡◌, ◌∷◌, true, false, sym, ◌∙◌}
+use Rattle.std.proofs.Common.{◌∷◌, true, false, sym, ◌∙◌}
 use Rattle.std.proofs.lemmas.Result.{err_from_is_err_and, IfOk-weaker, IfErr-weaker}
 use Rattle.md_tree.specs.Spellings.{spelling}
 use Rattle.md_tree.specs.Languages.{Tail, PairThen}

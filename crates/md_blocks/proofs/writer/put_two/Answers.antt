@@ -1,6 +1,6 @@
 use Rattle.md_text.specs.Pieces.{piece_text}
-use Rattle.md_outline.proofs.HeadPairs.{two_put}
-use Rattle.md_outline.proofs.head_pairs.put_two.Goals as goal
+use Rattle.md_blocks.proofs.BlockLemmas.{two_put}
+use Rattle.md_blocks.proofs.writer.put_two.Goals as goal
 
 pub returns-clause-put : goal.returns-clause-put
 returns-clause-put g c =
