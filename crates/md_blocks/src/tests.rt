@@ -37,7 +37,12 @@ fn makes_room(rt: HostRuntime) -> Result<(), Fail> {
     text.push(b'+')?;
     let mut chunk = Chunk::new();
     let line = number_piece(99_999, b'\n');
-    put_two(&mut text, piece_behind(b'e', digits_piece(7)), line, &mut chunk)?;
+    put_two(
+        &mut text,
+        piece_behind(b'e', digits_piece(7)),
+        line,
+        &mut chunk,
+    )?;
     make_room(CHUNK_SIZE - 8, &mut chunk, &mut text)?;
     assert_eq!(&rt; text.as_slice(), b"+".as_slice());
     make_room(CHUNK_SIZE, &mut chunk, &mut text)?;

@@ -3,10 +3,9 @@
 //! with tests is proved a second time with them.
 #![tactic(auto)]
 
-pub mod clients;
-
 #[cfg(test)]
 mod certificates;
+pub mod clients;
 #[cfg(test)]
 mod directed_reports;
 #[cfg(test)]

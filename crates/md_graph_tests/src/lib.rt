@@ -3,10 +3,9 @@
 //! stand in a crate of their own, since a crate with tests is proved a second time with them.
 #![tactic(auto)]
 
-pub mod clients;
-
 #[cfg(test)]
 mod chains;
+pub mod clients;
 #[cfg(test)]
 mod digraphs;
 #[cfg(test)]

@@ -4,6 +4,5 @@
 #![tactic(auto)]
 
 pub mod clients;
-
 #[cfg(test)]
 mod runs;

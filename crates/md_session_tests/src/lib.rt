@@ -3,10 +3,9 @@
 //! second time with them.
 #![tactic(auto)]
 
-pub mod clients;
-
 #[cfg(test)]
 mod class_sessions;
+pub mod clients;
 #[cfg(test)]
 mod cograph_paths;
 #[cfg(test)]

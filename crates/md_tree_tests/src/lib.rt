@@ -4,7 +4,6 @@
 #![tactic(auto)]
 
 pub mod clients;
-
 #[cfg(test)]
 mod cotrees;
 #[cfg(test)]
