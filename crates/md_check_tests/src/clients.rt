@@ -2,7 +2,7 @@
 //! their public calls alone.
 ghost use Rattle.std.specs.Prelude.{◌↔◌, List, IfOk, IsTrue};
 ghost use Rattle.md_graph.specs.PlainGraph.{PlainGraph};
-ghost use Rattle.md_input.specs.Graphs.{SpellsGraphs};
+ghost use Rattle.md_input.specs.Spelling.{SpellsGraphs};
 ghost use Rattle.md_report.specs.Places.{before_head};
 ghost use Rattle.md_report.specs.Reports.{IsReport};
 
