@@ -1,9 +1,13 @@
 -- A turn of the exploration: what the arc at hand forces and isn't seen is pushed, and taken in.
-use Rattle.std.proofs.Common.{◌≡◌, ◌⊎◌, ◌↔◌, ℕ, ◌<◌, Bool, true, List, [], ◌∷◌, ◌++◌, map, append_assoc, slice_get, Some, refl, sym, ◌∙◌, ap, subst, inl, inr}
-use Rattle.std.proofs.lemmas.List.{map-append}
+use Rattle.std.proofs.Common.{◌≡◌, ◌⊎◌, ◌↔◌, ℕ, ◌<◌, Bool, true, List, [], ◌∷◌, ◌++◌, map, append_assoc, slice_get, Some, refl, sym, ◌∙◌, ap, subst, inl, inr, true≢false}
+use Rattle.std.proofs.lemmas.Bool.{false_from_ne_true}
+use Rattle.std.proofs.lemmas.List.{append-nil, map-append}
+use Rattle.std.specs.FinSet as set
 use Rattle.md_graph.specs.declared.TheConstants.{NAMES}
 use Rattle.md_graph.specs.Sets.{NameSet, Has}
 use Rattle.md_graph.specs.NameSet.{ascending}
+use Rattle.md_graph.proofs.NameLemmas.{ascending_none}
+use Rattle.md_graph.proofs.SetLaws.{contains-empty}
 use Rattle.md_forcing.specs.declared.arc.Arc.{Arc}
 use Rattle.md_forcing.specs.Lists.{Holds, NoRepeats}
 use Rattle.md_forcing.specs.Forcing.{arc, IsArc, ForceAtTail, ForceAtHead, ForcesDirectly}
@@ -29,6 +33,17 @@ tail_entries tail place (x ∷ xs) = ap (λ l. tail_entry tail place x ∷ l) (t
 head_entries : (head place : ℕ) (xs : List ℕ) → map (head_entry head place) xs ≡ map (placed_at place) (map (arc_to head) xs)
 head_entries head place [] = refl
 head_entries head place (x ∷ xs) = ap (λ l. head_entry head place x ∷ l) (head_entries head place xs)
+
+-- ---- where there is nothing
+
+no_member : (s : NameSet) → s ≡ set.empty → (w : ℕ) → Has s w → ⊥
+no_member s none w h = true≢false (sym h ∙ ap (λ t. set.contains t w) none ∙ contains-empty w)
+
+nothing_listed : {X : Type 0} (f : ℕ → X) (s : NameSet) (old : List X) → s ≡ set.empty → old ≡ old ++ map f (ascending s)
+nothing_listed f s old none =
+    sym (append-nil old) ∙ ap (λ l. old ++ map f l) (sym (ascending_none s 0 NAMES (λ w above below. false_from_ne_true _ (no_member s none w))))
+
+-- ---- a turn
 
 module _ (e : ℕ → ℕ → Bool) (names : (u v : ℕ) → e u v ≡ true → (u < NAMES) × (v < NAMES)) (seen : List NameSet) (by : Arc) (heads tails : NameSet) (is_heads : NewHeads e seen by heads) (is_tails : NewTails e seen by tails) where
   abbrev from_tail : List Arc
@@ -141,3 +156,10 @@ module _ (e : ℕ → ℕ → Bool) (names : (u v : ℕ) → e u v ≡ true → 
     exactly = found_exactly;
     taken = found_taken mid_seen new_seen taken_first taken_second;
   }
+
+  -- the same where nothing is found
+  pub nothing_found : (place its_place : ℕ) (trail : List (Arc × ℕ)) → slice_get trail place ≡ Some (by, its_place) → heads ≡ set.empty → tails ≡ set.empty → TakesForced e place seen trail seen trail
+  nothing_found place its_place trail stands no_head no_tail =
+      found_turn place its_place trail trail trail seen seen stands (nothing_listed (tail_entry by.tail place) heads trail no_head) (nothing_listed (head_entry by.head place) tails trail no_tail)
+      (λ a. (inl, λ h. elim h [ inl m ↦ m | inr p ↦ absurd (no_member heads no_head a.head p.1) ]))
+      (λ a. (inl, λ h. elim h [ inl m ↦ m | inr p ↦ absurd (no_member tails no_tail a.tail p.1) ]))

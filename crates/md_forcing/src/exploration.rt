@@ -129,6 +129,10 @@ fn turn<const W: usize>(
     let Explored { seen, trail } = explored;
     seen.unseen_heads(graph, side, by, &mut found.heads);
     seen.unseen_tails(graph, side, by, &mut found.tails);
+    // Most arcs force none that isn't seen.
+    if found.heads.is_empty() && found.tails.is_empty() {
+        return Ok(());
+    }
     seen.take_heads(by.tail, &found.heads);
     seen.take_tails(&found.tails, by.head);
     push_heads(trail, by.tail, &found.heads, place)?;

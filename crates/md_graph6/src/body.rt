@@ -119,7 +119,7 @@ pub fn bits_from(body: &[u8], place: usize) -> u64
 {
     let at = place / 6;
     let shift = (place % 6) as u32;
-    if body.len() >= 12 && at <= body.len() - 12 {
+    if at + 11 < body.len() {
         return bits_inside(body, at, shift);
     }
     bits_inside(&twelve_bytes(body, at), 0, shift)

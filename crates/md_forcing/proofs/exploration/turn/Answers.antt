@@ -3,7 +3,7 @@ use Rattle.md_forcing.specs.Forcing.{arc}
 use Rattle.md_forcing.specs.Sides.{adjacent_on}
 use Rattle.md_forcing.proofs.ListLemmas.{key_at}
 use Rattle.md_forcing.proofs.OneSide.{side_names, arc_within}
-use Rattle.md_forcing.proofs.TurnLemmas.{found_turn}
+use Rattle.md_forcing.proofs.TurnLemmas.{found_turn, nothing_found}
 use Rattle.md_forcing.proofs.exploration.turn.Goals as goal
 
 pub unseen_heads-requires : goal.unseen_heads-requires
@@ -60,6 +60,10 @@ take_tails-requires g c = (
     ),
   ),
 )
+
+pub returns-then-is_empty-2-clause-taken : goal.returns-then-is_empty-2-clause-taken
+returns-then-is_empty-2-clause-taken g c =
+    nothing_found (adjacent_on c.args.side c.args.graph.now) (side_names c.vertices-vertices.ensures.graph c.args.side) _ c.entry.result.0 _ _ c.unseen_heads.ensures c.unseen_tails.ensures c.args.at c.entry.result.1 _ c.entry.ensures (c.is_empty.ensures.exactly.0 c.if-is_empty.true) (c.is_empty-then-is_empty.ensures.exactly.0 c.if-is_empty-2.true)
 
 pub returns : goal.returns
 returns g c = record {
