@@ -1,5 +1,5 @@
 //! The lowest numbers in digits, each spelled once.
-ghost use Rattle.std.specs.Prelude.{◌≡◌, ◌^◌, ◌≤◌, [], length, OnOk, OnErr};
+ghost use Rattle.std.specs.Prelude.{◌≡◌, ◌^◌, ◌<◌, ◌≤◌, max, [], length, OnOk, OnErr};
 ghost use Rattle.md_text.specs.Pieces.{AreNumerals};
 
 use crate::piece::Piece;
@@ -42,6 +42,7 @@ impl Numerals {
     pub fn spell(&mut self, count: u32) -> Result<(), AllocError>
         requires { count ≤ 10 ^ 5 }
         ensures there { OnOk result (count ≤ length self.new) }
+        ensures no_more { OnOk result (length self.new ≡ max count (length self.old)) }
         ensures stays { OnErr result (self.new ≡ self.old) }
     {
         if self.pieces.len() < count as usize {
@@ -63,8 +64,9 @@ impl Numerals {
 // Appends the digits of the next numbers, up to those below `count`.
 fn spell_more(pieces: &mut Vec<Piece>, count: u32) -> Result<(), AllocError>
     requires count { count ≤ 10 ^ 5 }
+    requires more { length pieces.old.items < count }
     requires spelled { AreNumerals pieces.old.items }
-    ensures there { OnOk result (count ≤ length pieces.new.items) }
+    ensures there { OnOk result (length pieces.new.items ≡ count) }
     ensures spelled { AreNumerals pieces.new.items }
     ensures stays { OnErr result (pieces.new.items ≡ pieces.old.items) }
 {
