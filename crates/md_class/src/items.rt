@@ -259,7 +259,7 @@ fn step<const W: usize, L: Ledger>(
 // What is told of the graph of a cotree, or a bar of the class in it. The tree is built where it is
 // asked for whole, or a node has too many inner children. Condition: there is such a graph. Errors:
 // want of memory.
-fn fit_of(alloc: Global, tree: &Cotree, class: Class, whole: bool) -> Result<Fit, Memory>
+pub(crate) fn fit_of(alloc: Global, tree: &Cotree, class: Class, whole: bool) -> Result<Fit, Memory>
     requires { (g : PlainGraph) × Denotes tree.now g }
     ensures { IfOk result (λ fit. (g : PlainGraph) → Denotes tree.now g
         → IsFitOf class whole g fit) }

@@ -16,17 +16,17 @@ ghost use Rattle.md_class.specs.ClassOpenings.{IsClassOpened};
 ghost use Rattle.md_class.specs.ItemAnswers.{IsItemAnswer, IsClassAnswer};
 
 use crate::answers::{ClassAnswer, ItemAnswer, Told};
-use crate::items::{answer_group, answer_one, path_bar};
+use crate::items::{Fit, answer_group, answer_one, fit_of, path_bar};
 use crate::undoing::answer_undo;
-use md_bar::{Bar, Class, ClassLine, bar_of};
+use md_bar::{Bar, Class, ClassLine};
 use md_cograph::any_p4;
-use md_cotree::{Cotree, from_tree};
-use md_decompose::decompose;
+use md_cotree::{Cotree, from_outline};
+use md_decompose::graph_outline;
 use md_graph::{GraphOf, Memory, Steps, WORDS};
-use md_outline::OutlinePart;
+use md_outline::{OutlinePart, has_no_prime_part};
 use md_report::Line;
 use md_script::{History, HistoryOf, Item};
-use md_tree::{Kind, Tree, has_no_prime};
+use md_tree::{Kind, Tree};
 use std::alloc::Global;
 use std::marker::{Brand, Model};
 use std::sync::ledger::{Blank, Ledger};
@@ -76,22 +76,24 @@ pub type ClassOpened = ClassOpenedOf<WORDS>;
 
 impl<const W: usize> ClassSessionOf<W> {
     /// The session whose graph and class are those handed in; `Barred` exactly where the graph has
-    /// a bar of the class, with one. It decomposes the graph. Errors: want of memory.
+    /// a bar of the class, with one. The cotree is made from the outline of the tree of the graph,
+    /// and a tree is built only where no node is prime and yet there is a bar. Errors: want of
+    /// memory.
     pub fn new(alloc: Global, graph: GraphOf<W>, class: Class) -> Result<ClassOpenedOf<W>, Memory>
         ensures opened { IfOk result (λ opened. IsClassOpened graph.entry class opened) }
     {
         let _vertices = graph.vertices();
-        let tree = decompose(alloc, &graph)?;
-        if !has_no_prime(&tree) {
-            return match any_p4(&graph, &tree) {
+        let parts = graph_outline(alloc, &graph)?;
+        if !has_no_prime_part(&parts) {
+            return match any_p4(&graph, &parts) {
                 Some(p) => Ok(ClassOpenedOf::Barred(path_bar(p))),
                 None => unreachable!(),
             };
         }
-        if let Some(bar) = bar_of(&tree, class) {
+        let tree = from_outline(alloc, &parts)?;
+        if let Fit::Bar(bar) = fit_of(alloc, &tree, class, false)? {
             return Ok(ClassOpenedOf::Barred(bar));
         }
-        let tree = from_tree(alloc, &tree)?;
         let near = Vec::with_capacity(alloc, 64 * W)?;
         Ok(ClassOpenedOf::Session(ClassSessionOf {
             graph,

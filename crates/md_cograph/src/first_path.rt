@@ -1,74 +1,71 @@
-//! An induced P4 of a graph whose tree is at hand.
-ghost use Rattle.std.specs.Prelude.{◌≡◌, IfSome, IfNone};
+//! An induced P4 of a graph, looked for where the outline of its tree says.
+ghost use Rattle.std.specs.Prelude.{◌≡◌, ◌≤◌, IfSome, IfNone};
 ghost use Rattle.md_graph.specs.PlainGraph.{adjacent};
 ghost use Rattle.md_modules.specs.InducedPaths.{HasInducedPath};
 ghost use Rattle.md_report.specs.Cographs.{IsP4Of};
 
-use md_graph::{GraphOf, NAMES};
+use md_graph::GraphOf;
 use md_modules::{P4, find_p4, find_p4_with};
-use md_tree::{Children, Kind, Tree};
+use md_outline::OutlinePart;
+use md_tree::Kind;
 
-/// An induced P4 of a graph; none exactly where it has none. The tree only says where to look: in a
-/// prime node at most one child has no name in a P4, so that two searches suffice where the tree is
-/// that of the graph and has such a node.
-pub fn any_p4<const W: usize>(graph: &GraphOf<W>, tree: &Option<Tree>) -> Option<P4>
+/// An induced P4 of a graph; none exactly where it has none. The parts only say where to look: in a
+/// prime node at most one child has no name in a P4, so that two searches suffice where they are
+/// the outline of the graph's tree and have such a node. No call nests as deep as the tree.
+pub fn any_p4<const W: usize>(graph: &GraphOf<W>, parts: &[OutlinePart<Kind>]) -> Option<P4>
     ensures found { IfSome result (IsP4Of graph.now) }
     ensures none { IfNone result (HasInducedPath (adjacent graph.now) graph.now.vertices → ⊥) }
 {
-    if let Some(tree) = tree {
-        if let Some(p) = p4_at_prime(graph, tree) {
-            return Some(p);
+    match p4_through(graph, behind_prime(parts)) {
+        Some(p) => Some(p),
+        None => find_p4(graph),
+    }
+}
+
+// The parts behind the first prime node, whose children come first among them; none where no node
+// is prime.
+fn behind_prime(parts: &[OutlinePart<Kind>]) -> &[OutlinePart<Kind>] {
+    for i in 0..parts.len() {
+        if let OutlinePart::Node(Kind::Prime, _) = parts[i] {
+            return &parts[i + 1..];
         }
     }
-    find_p4(graph)
+    &[]
 }
 
-// An induced P4 through a child of a prime node, the first in the order of the tree that gives one.
-#[cycle(search)]
-fn p4_at_prime<const W: usize>(graph: &GraphOf<W>, tree: &Tree) -> Option<P4>
+// An induced P4 through the first name of a tree, the first tree that gives one of those that are
+// outlined one behind the other.
+fn p4_through<const W: usize>(graph: &GraphOf<W>, row: &[OutlinePart<Kind>]) -> Option<P4>
     ensures { IfSome result (IsP4Of graph.now) }
 {
-    match tree {
-        Tree::Leaf(_) => None,
-        Tree::Node(Kind::Prime, children, _) => p4_through(graph, children),
-        Tree::Node(_, children, _) => p4_below(graph, children),
-    }
-}
-
-#[cycle(search)]
-fn p4_below<const W: usize>(graph: &GraphOf<W>, children: &Children) -> Option<P4>
-    ensures { IfSome result (IsP4Of graph.now) }
-{
-    for child in &children.list {
-        if let Some(p) = p4_at_prime(graph, child) {
-            return Some(p);
-        }
-    }
-    None
-}
-
-// An induced P4 through the first leaf of a child.
-fn p4_through<const W: usize>(graph: &GraphOf<W>, children: &Children) -> Option<P4>
-    ensures { IfSome result (IsP4Of graph.now) }
-{
-    for child in &children.list {
-        let x = first_leaf(child);
-        if graph.has_vertex(x) {
-            if let Some(p) = find_p4_with(graph, x) {
-                return Some(p);
+    // How many subtrees of the tree that was begun last are still to come, and whether it is named.
+    let mut due = 0_u64;
+    let mut named = false;
+    for part in row {
+        named = named && due > 0;
+        due = due.saturating_sub(1);
+        match part {
+            OutlinePart::Node(_, count) => due = due.saturating_add(*count as u64),
+            OutlinePart::Name(x) => {
+                if !named {
+                    named = true;
+                    if let Some(p) = p4_at(graph, *x) {
+                        return Some(p);
+                    }
+                }
             }
         }
     }
     None
 }
 
-// The first leaf of a tree; no name where there is none.
-fn first_leaf(tree: &Tree) -> u32 {
-    match tree {
-        Tree::Leaf(x) => *x,
-        Tree::Node(_, children, _) => match children.list.first() {
-            Some(child) => first_leaf(child),
-            None => NAMES,
-        },
+// An induced P4 through a name; none where it is no vertex.
+fn p4_at<const W: usize>(graph: &GraphOf<W>, x: u32) -> Option<P4>
+    ensures { IfSome result (IsP4Of graph.now) }
+{
+    if graph.has_vertex(x) {
+        find_p4_with(graph, x)
+    } else {
+        None
     }
 }

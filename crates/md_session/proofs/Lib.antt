@@ -3,4 +3,3 @@ mod AppliedSteps
 mod BackCosts
 mod Answering
 mod KeptTrees
-mod OutlinedCographs

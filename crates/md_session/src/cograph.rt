@@ -22,7 +22,7 @@ ghost use Rattle.md_report.specs.Steps.{ItemStep};
 use crate::cograph_items::{ItemAnswer, answer_group, answer_one, answer_undo};
 use md_cograph::{any_p4, change, p4_behind};
 use md_cotree::{Cotree, from_outline};
-use md_decompose::{decompose, graph_outline};
+use md_decompose::graph_outline;
 use md_graph::{GraphOf, Memory, Steps, WORDS};
 use md_modules::P4;
 use md_outline::{OutlinePart, has_no_prime_part};
@@ -87,9 +87,9 @@ pub enum Answer {
 
 impl<const W: usize> CographSessionOf<W> {
     /// The session whose graph is the one handed in; `NotCograph` exactly where that has an induced
-    /// P4, with one. The cotree is made from the outline of the tree; only where that has a prime
-    /// node the tree is built, and a P4 looked for from the names of the node's children. Errors:
-    /// want of memory.
+    /// P4, with one. The cotree is made from the outline of the tree; where that has a prime node a
+    /// P4 is looked for from the names of the node's children. No tree is built. Errors: want of
+    /// memory.
     pub fn new(alloc: Global, graph: GraphOf<W>) -> Result<OpenedOf<W>, Memory>
         ensures { IfOk result (λ opened. IsOpened graph.entry opened) }
     {
@@ -100,8 +100,7 @@ impl<const W: usize> CographSessionOf<W> {
             let near = Vec::with_capacity(alloc, 64 * W)?;
             return Ok(OpenedOf::Session(CographSessionOf { graph, tree, near }));
         }
-        let tree = decompose(alloc, &graph)?;
-        match any_p4(&graph, &tree) {
+        match any_p4(&graph, &parts) {
             Some(p) => Ok(OpenedOf::NotCograph(p)),
             None => unreachable!(),
         }

@@ -2,23 +2,24 @@
 use crate::graphs::graph_of;
 use md_cograph::any_p4;
 use md_modules::P4;
-use md_tree::read_tree;
+use md_outline::OutlinePart;
+use md_outline::OutlinePart::{Name, Node};
+use md_tree::Kind;
 use std::alloc::Global;
 use std::process::Abort;
 use std::test::Fail;
 
-// Sees which induced P4 of a graph is found with the tree of this text.
+// Sees which induced P4 of a graph is found with this outline.
 fn check(
     rt: &impl Abort,
     alloc: Global,
     n: u32,
     edges: &[(u32, u32)],
-    text: &[u8],
+    parts: &[OutlinePart<Kind>],
     expected: Option<P4>,
 ) -> Result<(), Fail> {
     let graph = graph_of(rt, alloc, n, edges)?;
-    let tree = read_tree(alloc, text)?;
-    assert_eq!(rt; any_p4(&graph, &tree), expected);
+    assert_eq!(rt; any_p4(&graph, parts), expected);
     Ok(())
 }
 
@@ -33,11 +34,23 @@ const FOUND: P4 = P4 {
     d: 3,
 };
 
-// A path with its tree, the same path with that of another graph, and a star.
+static OWN: [OutlinePart<Kind>; 7] = [
+    Node(Kind::Parallel, 2),
+    Node(Kind::Prime, 4),
+    Name(0),
+    Name(1),
+    Name(2),
+    Name(3),
+    Name(4),
+];
+
+static OTHER: [OutlinePart<Kind>; 3] = [Node(Kind::Prime, 2), Name(4), Name(5)];
+
+// A path with the outline of its tree, the same path with an outline that says to look elsewhere,
+// and a star.
 #[test]
 fn paths(rt: HostRuntime) -> Result<(), Fail> {
-    let own = b"P(R(0,1,2,3;0-1,1-2,2-3),4)";
-    check(&rt, rt.alloc(), 5, &PATH, own, Some(FOUND))?;
-    check(&rt, rt.alloc(), 5, &PATH, b"P(0,1,2,3,4)", Some(FOUND))?;
-    check(&rt, rt.alloc(), 4, &STAR, b"empty", None)
+    check(&rt, rt.alloc(), 5, &PATH, &OWN, Some(FOUND))?;
+    check(&rt, rt.alloc(), 5, &PATH, &OTHER, Some(FOUND))?;
+    check(&rt, rt.alloc(), 4, &STAR, &[], None)
 }

@@ -1,6 +1,6 @@
 use Rattle.std.proofs.Common.{refl}
 use Rattle.md_cotree.proofs.NoPaths.{cotree_no_path}
-use Rattle.md_session.proofs.OutlinedCographs.{cograph_parts, cotree_outline, outline_denotes}
+use Rattle.md_cograph.proofs.OutlinedCographs.{cograph_parts, cotree_outline, outline_denotes}
 use Rattle.md_session.proofs.cograph.CographSessionOf.new.Goals as goal
 
 pub from_outline-requires : goal.from_outline-requires
