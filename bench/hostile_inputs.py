@@ -1,7 +1,8 @@
 """The files and the words that hostile.py tries: every form of words, over small files, long ones and deep trees."""
 import re
 
-from run import cograph, d6, dense, dimacs, g6, nested_orders, path, permutation_graph, random_digraph, threshold
+from run import (cograph, d6, dense, dimacs, g6, nested_orders, path, permutation_graph, random_digraph, threshold,
+                 threshold_on_path)
 
 # A path of four vertices with a twin of an end, a cycle of five, one of six, the graph without vertices, two vertices
 # with an edge in sparse6, a triangle, a cograph, a permutation graph and a random graph.
@@ -91,11 +92,14 @@ FILES = {
     "deep.d6": d6(nested_orders(1001)),
     "deep.g6": g6(threshold(1001)),
     "deep.txt": deep_script(1001),
+    "deep_barred.g6": g6(threshold_on_path(1001)),
     "deepest.g6": g6(threshold(4096)),
     "deepest.d6": d6(nested_orders(4096)),
     "deepest.txt": deep_script(4096),
+    "deepest_barred.g6": g6(threshold_on_path(4096)),
     "largest.g6": g6(threshold(16384)),
     "largest.txt": deep_script(16384),
+    "largest_barred.g6": g6(threshold_on_path(16384)),
     "nested.txt": nested(b"mdt tree", b"S(1,P(2,", 100000),
     "nested_edit.txt": nested(b"mdt edit", b"R(", 300000),
     "nested_dtree.txt": nested(b"mdt dtree", b"O(", 300000),
@@ -145,8 +149,17 @@ def deep_reports(depth, modes):
     return {"%s_%s.txt" % (depth, mode): [mode, *rest.get(mode, session)] for mode in modes}
 
 
+# The sessions that don't begin with every graph.
+BARRED = ("cograph", "quiet", "trivial", "threshold")
+
+
+def barred_reports(depth):
+    """Their reports over such a graph, whose tree has the depth."""
+    return {"%s_barred_%s.txt" % (depth, mode): [mode, "g6", depth + "_barred.g6", depth + ".txt"] for mode in BARRED}
+
+
 DEEP_REPORTS = deep_reports("deep", ("tree", "shortest", "permute", "dtree", *SESSIONS))
-DEEPEST_REPORTS = deep_reports("deepest", ("tree", "dtree", *SESSIONS))
+DEEPEST_REPORTS = {**deep_reports("deepest", ("tree", "dtree", *SESSIONS)), **barred_reports("deepest")}
 LARGEST_REPORTS = deep_reports("largest", ("tree", *SESSIONS))
 
 

@@ -95,6 +95,11 @@ def threshold(n):
     return [(1 << v) - 1 if v % 2 else 0 for v in range(n)]
 
 
+def threshold_on_path(n):
+    """The same, but that the first four vertices are an induced path: the one prime node is the deepest."""
+    return [0, 1, 2, 4, *threshold(n)[4:]]
+
+
 def nested_orders(n):
     """A directed graph in which each odd vertex has arcs from all before it: a tree of order and parallel nodes in
     turn, as deep as it can be."""

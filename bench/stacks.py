@@ -3,7 +3,7 @@ import collections
 import os
 import resource
 
-from hostile_inputs import GRAPH_MODES, SESSIONS, deep_reports
+from hostile_inputs import BARRED, GRAPH_MODES, SESSIONS, barred_reports, deep_reports
 from refusing import Ended
 
 KILOBYTE = 1 << 10
@@ -14,8 +14,11 @@ MODES = (*GRAPH_MODES, "dtree", *SESSIONS)
 FEW_NAMES = ("compare", "shortest", "permute", "dtree")
 MOST_STACK = 65536
 
-# The stack in KB that a run, and a check of its report, may need.
+# The stack in KB that a run, and a check of its report, may need; `barred` are sessions on a graph that isn't of the
+# class.
 BOUNDS = {
+    ("barred", "deepest"): 64,
+    ("barred", "largest"): 128,
     **{(mode, "deepest"): 64 for mode in ("tree", "cograph", "quiet")},
     **{(mode, "largest"): 128 for mode in ("tree", "cograph", "quiet")},
     **{(mode, "largest"): 2048 for mode in ("edit", "trivial", "threshold")},
@@ -40,8 +43,17 @@ def write_reports(program, reports):
             file.write(ended.out)
 
 
+def barred_forms():
+    tables = {depth: barred_reports(depth) for depth in DEPTHS}
+    for mode in BARRED:
+        names = {depth: "%s_barred_%s.txt" % (depth, mode) for depth in DEPTHS}
+        words = {depth: tables[depth][name] for depth, name in names.items()}
+        yield mode + " barred", "barred", words
+        yield "check %s barred" % mode, "barred", {depth: ["check", *words[depth], names[depth]] for depth in DEPTHS}
+
+
 def forms():
-    """Every form of words over deep trees: what stands in the table, the mode, and the words by depth."""
+    """Every form of words over deep trees: what stands in the table, what bounds it, and the words by depth."""
     tables = {depth: deep_reports(depth, MODES) for depth in DEPTHS}
     rows = [(form, form, {depth: [form, "g6", depth + ".g6"] for depth in DEPTHS}) for form in ("edges", "graph6")]
     for mode in MODES:
@@ -49,6 +61,7 @@ def forms():
                 for depth in DEPTHS if depth != "largest" or mode not in FEW_NAMES}
         rows.append((mode, mode, {depth: words for depth, (_, words) in told.items()}))
         rows.append(("check " + mode, mode, {depth: ["check", *words, name] for depth, (name, words) in told.items()}))
+    rows += barred_forms()
     rows.append(("big", "big", {depth: ["big", number] for depth, (_, number) in DEPTHS.items() if number}))
     return rows
 
@@ -88,7 +101,7 @@ def tell_stacks(program, only):
     """Tells the least stack of every form by depth; answers where it is more than its bound."""
     for depth in DEPTHS:
         few = MODES if depth != "largest" else [mode for mode in MODES if mode not in FEW_NAMES]
-        write_reports(program, deep_reports(depth, few))
+        write_reports(program, {**deep_reports(depth, few), **barred_reports(depth)})
     print("least stack in KB, and with a request refused | " + " | ".join(told for told, _ in DEPTHS.values()))
     wrong = []
     for form, mode, words_by_depth in forms():
