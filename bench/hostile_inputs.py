@@ -36,8 +36,10 @@ def from_one(script):
 
 def deep_script(n):
     """Over the threshold graph on so many vertices: the last goes and comes back, an edge goes whose end would make an
-    induced path, and a group is applied and taken back."""
-    return b"-v %d\nundo\n-e 1 3\nbegin\n-v 0\n+v 0\ncommit\nundo\n" % (n - 1)
+    induced path, a group is applied and taken back, and the first vertex comes back as a twin of the last odd one, so
+    that there is an induced cycle."""
+    others = b" ".join(b"%d" % v for v in range(1, n - 1 - n % 2))
+    return b"-v %d\nundo\n-e 1 3\nbegin\n-v 0\n+v 0\ncommit\nundo\n-v 0\n+v 0 %s\n" % (n - 1, others)
 
 
 def nested(lead, opening, levels):
