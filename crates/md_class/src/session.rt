@@ -91,16 +91,18 @@ impl<const W: usize> ClassSessionOf<W> {
             };
         }
         let tree = from_outline(alloc, &parts)?;
-        if let Fit::Bar(bar) = fit_of(alloc, &tree, class, false)? {
-            return Ok(ClassOpenedOf::Barred(bar));
+        match fit_of(alloc, &tree, class, false)? {
+            Fit::Bar(bar) => Ok(ClassOpenedOf::Barred(bar)),
+            Fit::Told(_) => {
+                let near = Vec::with_capacity(alloc, 64 * W)?;
+                Ok(ClassOpenedOf::Session(ClassSessionOf {
+                    graph,
+                    tree,
+                    class,
+                    near,
+                }))
+            }
         }
-        let near = Vec::with_capacity(alloc, 64 * W)?;
-        Ok(ClassOpenedOf::Session(ClassSessionOf {
-            graph,
-            tree,
-            class,
-            near,
-        }))
     }
 
     /// The tree of strong modules of the graph, none where it has no vertices. Errors: want of

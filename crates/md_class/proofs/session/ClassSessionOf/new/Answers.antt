@@ -1,30 +1,45 @@
-use Rattle.std.proofs.Common.{refl, subst}
-use Rattle.md_graph.specs.PlainGraph.{adjacent}
-use Rattle.md_modules.proofs.Turns.{graph_adjacency}
-use Rattle.md_tree.specs.Plain.{plain_option}
-use Rattle.md_cotree.specs.Cotrees.{Denotes}
-use Rattle.md_cograph.proofs.Changed.{no_prime_of}
+use Rattle.std.proofs.Common.{false, refl, subst}
+use Rattle.md_cograph.proofs.OutlinedCographs.{cograph_parts, cotree_outline, outline_denotes}
+use Rattle.md_class.specs.ClassAnswers.{IsFitOf}
 use Rattle.md_class.proofs.session.ClassSessionOf.new.Goals as goal
-
-pub invariant_of-result : goal.invariant_of-result
-invariant_of-result g c =
-    let s = c.args.graph in
-    let allowed = c.in_default.ensures.none (adjacent s) s.vertices (graph_adjacency c.vertices-vertices.ensures.graph) c.in_ok-tree.ensures.tree in
-    (allowed, subst (Denotes c.in_ok-tree-2.tree) c.in_ok-tree.ensures.denotes c.in_ok-tree-2.ensures, c.in_ok-near.ensures.capacity)
 
 pub unreachable-requires : goal.unreachable-requires
 unreachable-requires g c =
-    let yes = c.has_no_prime.ensures.no_prime.1 (no_prime_of c.args.graph c.vertices-vertices.ensures.graph (plain_option c.in_ok-tree.tree) c.in_ok-tree.ensures.tree c.in-None.ensures.none) in
-    let fails = c.if-not-has_no_prime.true in
+    let yes = c.has_no_prime_part.ensures.no_prime.1
+    (cograph_parts c.args.graph c.vertices-vertices.ensures.graph c.in_ok-parts.parts.items c.deref.result.now c.deref.result.now c.in_ok-parts.ensures.outline c.deref.ensures.value c.deref.ensures.value
+    c.in-None.ensures.none) in
+    let fails = c.if-not-has_no_prime_part.true in
     absurd (cc)
 
-pub returns-in-Some-bar_of : goal.returns-in-Some-bar_of
-returns-in-Some-bar_of g c =
-    let s = c.args.graph in
-    record { opened = c.in-Some-bar_of.ensures.found (adjacent s) s.vertices (graph_adjacency c.vertices-vertices.ensures.graph) c.in_ok-tree.ensures.tree }
+pub from_outline-requires : goal.from_outline-requires
+from_outline-requires g c = record {
+  tree =
+      cotree_outline c.args.graph c.vertices-vertices.ensures.graph c.in_ok-parts.parts.items c.deref.result.now c.deref-2.result.now c.in_ok-parts.ensures.outline
+      c.deref.ensures.value c.deref-2.ensures.value (c.has_no_prime_part.ensures.no_prime.0 c.if-not-has_no_prime_part.false);
+}
 
-pub returns : goal.returns
-returns g c =
-    let s = c.args.graph in
-    let allowed = c.in_default.ensures.none (adjacent s) s.vertices (graph_adjacency c.vertices-vertices.ensures.graph) c.in_ok-tree.ensures.tree in
-    record { opened = (refl, allowed) }
+pub fit_of-requires : goal.fit_of-requires
+fit_of-requires g c =
+    let den = outline_denotes c.args.graph c.vertices-vertices.ensures.graph c.in_ok-parts.parts.items c.deref.result.now c.deref-2.result.now c.in_ok-parts.ensures.outline
+    c.deref.ensures.value c.deref-2.ensures.value (c.has_no_prime_part.ensures.no_prime.0 c.if-not-has_no_prime_part.false) c.in_ok-tree.tree c.in_ok-tree.ensures.denotes in
+    (c.args.graph, den)
+
+pub returns-in-Bar : goal.returns-in-Bar
+returns-in-Bar g c =
+    let den = outline_denotes c.args.graph c.vertices-vertices.ensures.graph c.in_ok-parts.parts.items c.deref.result.now c.deref-2.result.now c.in_ok-parts.ensures.outline
+    c.deref.ensures.value c.deref-2.ensures.value (c.has_no_prime_part.ensures.no_prime.0 c.if-not-has_no_prime_part.false) c.in_ok-tree.tree c.in_ok-tree.ensures.denotes in
+    record { opened = subst (IsFitOf c.args.class false c.args.graph) c.in-Bar.is (c.in_ok-bar.ensures c.args.graph den) }
+
+pub invariant_of-result : goal.invariant_of-result
+invariant_of-result g c =
+    let den = outline_denotes c.args.graph c.vertices-vertices.ensures.graph c.in_ok-parts.parts.items c.deref.result.now c.deref-2.result.now c.in_ok-parts.ensures.outline
+    c.deref.ensures.value c.deref-2.ensures.value (c.has_no_prime_part.ensures.no_prime.0 c.if-not-has_no_prime_part.false) c.in_ok-tree.tree c.in_ok-tree.ensures.denotes in
+    let so = subst (IsFitOf c.args.class false c.args.graph) c.in-Told.is (c.in_ok-bar.ensures c.args.graph den) in
+    (so.0, den, c.in_ok-near-in-Told.ensures.capacity)
+
+pub returns-in_ok-near-in-Told : goal.returns-in_ok-near-in-Told
+returns-in_ok-near-in-Told g c =
+    let den = outline_denotes c.args.graph c.vertices-vertices.ensures.graph c.in_ok-parts.parts.items c.deref.result.now c.deref-2.result.now c.in_ok-parts.ensures.outline
+    c.deref.ensures.value c.deref-2.ensures.value (c.has_no_prime_part.ensures.no_prime.0 c.if-not-has_no_prime_part.false) c.in_ok-tree.tree c.in_ok-tree.ensures.denotes in
+    let so = subst (IsFitOf c.args.class false c.args.graph) c.in-Told.is (c.in_ok-bar.ensures c.args.graph den) in
+    record { opened = (refl, so.0) }
