@@ -11,16 +11,15 @@ use md_graph::{Memory, Set};
 use md_outline::{PairSpace, put_row};
 use md_text::skip_byte;
 use md_tree::{Lettered, Paired};
-use std::alloc::Global;
 
 // What stands behind the pairs of a prime node with these names of its children, and behind its
 // bracket; none if the text doesn't begin with them, or if there is no pair. Condition: there are
 // as few as names.
 pub(crate) fn past_pairs<'a, K: Lettered, P: Paired, G: TextGraph<K, P, W>, const W: usize>(
-    alloc: Global,
     graph: &G,
     heads: &[u32],
     text: &'a [u8],
+    gathered: &mut Vec<u8>,
     space: &mut PairSpace,
 ) -> Result<Option<&'a [u8]>, Memory>
     requires limit { W ≤ WORDS }
@@ -36,7 +35,7 @@ pub(crate) fn past_pairs<'a, K: Lettered, P: Paired, G: TextGraph<K, P, W>, cons
         (head_pairs P.rules (G.view graph.now).lists heads.now) ++ 41 ∷ tail)) }
 {
     space.places.spell(heads)?;
-    let Some(rest) = past_heads::<K, P, G, W>(alloc, graph, heads, text, space)? else {
+    let Some(rest) = past_heads::<K, P, G, W>(graph, heads, text, gathered, space)? else {
         return Ok(None);
     };
     if rest.len() == text.len() {
@@ -59,10 +58,10 @@ pub(crate) fn past_bracket(text: &[u8]) -> Option<&[u8]>
 // What stands behind the pairs of the heads; none if the text doesn't begin with them. They are
 // gathered, and compared when many have come.
 fn past_heads<'a, K: Lettered, P: Paired, G: TextGraph<K, P, W>, const W: usize>(
-    alloc: Global,
     graph: &G,
     heads: &[u32],
     text: &'a [u8],
+    gathered: &mut Vec<u8>,
     space: &mut PairSpace,
 ) -> Result<Option<&'a [u8]>, Memory>
     requires limit { W ≤ WORDS }
@@ -79,12 +78,12 @@ fn past_heads<'a, K: Lettered, P: Paired, G: TextGraph<K, P, W>, const W: usize>
     space.chunk.clear();
     space.mark = b';';
     let all = Set::from_list(heads);
-    let mut gathered = Vec::new(alloc);
+    gathered.clear();
     let mut rest = text;
     for (position, head) in heads.iter().enumerate() {
         let (row, from) = graph.ahead(*head);
         let near = row.and(&all);
-        put_row::<P, Memory, Vec<u8>, W>(&mut gathered, &near, from, position as u32, space)?;
+        put_row::<P, Memory, Vec<u8>, W>(gathered, &near, from, position as u32, space)?;
         let Some(tail) = rest.strip_prefix(gathered.as_slice()) else {
             return Ok(None);
         };

@@ -13,7 +13,7 @@ from_list-all-requires g c =
 pub loop-position-init : goal.loop-position-init
 loop-position-init g c = record {
   found = found_none g.P.Paired.rules (g.G.TextGraph.view c.args.graph.now).lists c.args.heads.now c.args.text.now c.clear.new.self c.args.space.now.places c.clear.ensures.changed c.requires.places;
-  none = c.new-gathered.ensures.items;
+  none = c.clear-2.ensures.items;
 }
 
 pub put_row-requires : goal.put_row-requires
