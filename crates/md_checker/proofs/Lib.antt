@@ -21,7 +21,7 @@ mod TextWalk
 mod Twins
 mod ArcTexts
 pub mod HeadPairs
-mod GraphTexts
+pub mod GraphTexts
 mod Taking
 mod Cotrees
 mod StateTexts

@@ -1,9 +1,10 @@
 -- A node fits where names of its children do, whichever names of them these are.
 use Rattle.std.proofs.Common.{◌≡◌, ℕ, zero, suc, ◌<◌, ◌≤◌, List, [], ◌∷◌, length, get_or, refl, sym, ◌∙◌, ap, ap₂, subst, inl, inr, arith}
 use Rattle.std.specs.FinSet.{empty, union, insert, from_list, difference}
-use Rattle.md_graph.specs.Sets.{NameSet, Has, Disjoint, Within, only_name}
+use Rattle.md_graph.specs.Sets.{NameSet, Has, Lacks, Disjoint, Within, only_name}
 use Rattle.md_graph.proofs.SetLemmas.{clash, empty_lacks, of_only, of_union, union_left, union_right, same_members}
 use Rattle.md_modules.specs.Colours.{IsColouring, AreTold}
+use Rattle.md_modules.proofs.Modules.{other_way}
 use Rattle.md_modules.specs.Kinds.{IsUnsplit}
 use Rattle.md_modules.specs.Modules.{IsModule, IsMaximalStrong, HasTrivialModulesAlone}
 use Rattle.md_tree.specs.Heads.{head_at, heads, AreChildModules, AreStrongChildren, IsFitNodeBy}
@@ -13,7 +14,7 @@ use Rattle.md_tree.specs.WellFormed.{AreDisjoint}
 use Rattle.md_tree.proofs.Fitted.{at_places, told_by_heads, modules_below}
 use Rattle.md_tree.proofs.Folding.{count_row}
 use Rattle.md_tree.proofs.Holding.{least_length}
-use Rattle.md_tree.proofs.Nodes.{IsChild}
+use Rattle.md_tree.proofs.Nodes.{IsChild, at_inside}
 use Rattle.md_checker.specs.FitTests.{IsFitBy}
 use Rattle.md_checker.proofs.FitNodes.{alike_module}
 
@@ -83,6 +84,22 @@ module _ {K P : Type 0} (k : K) where
 
 -- ---- a node with names of its children
 
+-- heads of the same children have trivial modules alone where others have
+trivial_along : {K P C : Type 0} {reverse : C → C} {e : ℕ → ℕ → C} → IsColouring reverse e → AreTold C → (us ws : PlainTreesOf K P) → AreChildModules e us → AreChildModules e ws → 3 ≤ count us → count us ≡ count ws → names_below us ≡ names_below ws →
+    ((i : ℕ) → names_at us i ≡ names_at ws i) → HasTrivialModulesAlone e (heads us) → HasTrivialModulesAlone e (heads ws)
+trivial_along {e = e} col told us ws of_us of_ws three size below each all =
+    let un : IsUnsplit e (names_below us) × AreStrongChildren e us = (told_by_heads col us of_us told).unsplit three all in
+    (told_by_heads col ws of_ws told).trivial (subst (IsUnsplit e) below un.0)
+    (λ m. (
+      (λ max.
+          let i : (i : ℕ) × (i < count us) × (m ≡ names_at us i) = (un.1 m).0 (subst (λ w. IsMaximalStrong e w m) (sym below) max) in
+          let b : i.0 < count us = i.1 in
+          (i.0, (let c : i.0 < count ws = omega arith in c), i.2 ∙ each i.0)),
+      (λ i.
+          let b : i.0 < count ws = i.1 in
+          subst (λ w. IsMaximalStrong e w m) below ((un.1 m).1 (i.0, (let c : i.0 < count us = omega arith in c), i.2 ∙ sym (each i.0)))),
+    ))
+
 module _ {K P C : Type 0} {reverse : C → C} {e : ℕ → ℕ → C} (col : IsColouring reverse e) (told : AreTold C) (puts : K → List P → ℕ → ℕ → C) (prime : K) (s : NameSet) (k : K) (ts : List (PlainTreeOf K P)) (ps : List P) (ms : List ℕ)
     (least : AreLeast ts ms) (some : 1 ≤ count (row ts)) (many : k ≡ prime → 3 ≤ count (row ts)) (apart : AreDisjoint (row ts)) (own : (i : ℕ) → i < count (row ts) → Has (names_at (row ts) i) (head_at (row ts) i))
     (inside : Within (names_below (row ts)) s) (mods : (c : PlainTreeOf K P) → IsChild (row ts) c → IsModule e s (names c)) where
@@ -118,26 +135,31 @@ module _ {K P C : Type 0} {reverse : C → C} {e : ℕ → ℕ → C} (col : IsC
   trivial_heads : 3 ≤ count cs → HasTrivialModulesAlone e (from_list ms) → HasTrivialModulesAlone e (heads cs)
   trivial_heads three all =
       let n = led_count k ts ms least in
-      let un : IsUnsplit e (names_below ds) × AreStrongChildren e ds = (told_by_heads col ds of_ds told).unsplit (omega arith) (subst (HasTrivialModulesAlone e) (sym (led_heads k ts ms least)) all) in
-      (told_by_heads col cs of_cs told).trivial (subst (IsUnsplit e) below un.0)
-      (λ m. (
-        (λ max.
-            let i : (i : ℕ) × (i < count ds) × (m ≡ names_at ds i) = (un.1 m).0 (subst (λ w. IsMaximalStrong e w m) (sym below) max) in
-            let b : i.0 < count ds = i.1 in
-            (i.0, (let c : i.0 < count cs = omega arith in c), i.2 ∙ led_at k ts ms least i.0)),
-        (λ i.
-            let b : i.0 < count cs = i.1 in
-            subst (λ w. IsMaximalStrong e w m) below ((un.1 m).1 (i.0, (let c : i.0 < count ds = omega arith in c), i.2 ∙ sym (led_at k ts ms least i.0)))),
-      ))
+      trivial_along col told ds cs of_ds of_cs (omega arith) n below (led_at k ts ms least) (subst (HasTrivialModulesAlone e) (sym (led_heads k ts ms least)) all)
+
+  heads_trivial : 3 ≤ count cs → HasTrivialModulesAlone e (heads cs) → HasTrivialModulesAlone e (from_list ms)
+  heads_trivial three all =
+      subst (HasTrivialModulesAlone e) (led_heads k ts ms least)
+      (trivial_along col told cs ds of_cs of_ds three (sym (led_count k ts ms least)) (sym below) (λ i. sym (led_at k ts ms least i)) all)
+
+  -- the colours of two heads are those of the names of these children
+  at_heads : (i j : ℕ) → i < j → j < count cs → e (get_or ms i 0) (get_or ms j 0) ≡ e (head_at cs i) (head_at cs j)
+  at_heads i j less b = at_places col cs of_cs i j (get_or ms i 0) (get_or ms j 0) less (lie i (omega arith)) (lie j b)
+
+  pub fit_named : (others : NameSet) → ((y : ℕ) → Has others y → Has s y × Lacks (names_below cs) y) → IsFitNodeBy puts (λ l. l ≡ prime) e s k cs ps → IsFitBy puts (λ l. l ≡ prime) e others k ps ms
+  fit_named others outside fit = record {
+    alike = λ i y l h.
+        let n = same_size in
+        let out = outside y h in
+        let in_cs : (j : ℕ) → j < count cs → Has (names_below cs) (get_or ms j 0) = λ j b. at_inside cs j (get_or ms j 0) (lie j b) in
+        other_way col y (get_or ms 0 0) y (get_or ms i 0) (fit.is_module.alike (get_or ms 0 0) (get_or ms i 0) y (in_cs 0 (omega arith)) (in_cs i (omega arith)) out.0 out.1);
+    joined = λ i j less l. let n = same_size in at_heads i j less (omega arith) ∙ fit.joined i j less (omega arith);
+    trivial = λ is. heads_trivial (many is) (fit.trivial is);
+  }
 
   pub named_fit : IsFitBy puts (λ l. l ≡ prime) e (difference s (names_below cs)) k ps ms → IsFitNodeBy puts (λ l. l ≡ prime) e s k cs ps
   named_fit fit = record {
     is_module = alike_module col s cs some ms same_size lie mods fit.alike;
-    joined = λ i j less b.
-        let n = same_size in
-        let c : i < count cs = omega arith in
-        at_places col ds of_ds i j (head_at cs i) (head_at cs j) less
-        (subst (λ w. Has w (head_at cs i)) (sym (led_at k ts ms least i)) (own i c)) (subst (λ w. Has w (head_at cs j)) (sym (led_at k ts ms least j)) (own j b))
-        ∙ (λ w. e (led_head k ts ms least i w) (led_head k ts ms least j w)) ∙ fit.joined i j less (omega arith);
+    joined = λ i j less b. let n = same_size in sym (at_heads i j less b) ∙ fit.joined i j less (omega arith);
     trivial = λ is. trivial_heads (many is) (fit.trivial is);
   }

@@ -1,6 +1,6 @@
 -- Lines that are taken by their texts alone: they tell a tree or an orientation.
 use Rattle.std.proofs.Common.{◌≡◌, ◌⊎◌, ℕ, ◌+◌, ◌≤◌, Bool, true, IsTrue, List, [], ◌∷◌, ◌++◌, length, drop, Some, Result, Ok, IfOk, codes, refl, sym, ◌∙◌, ap, subst, inl, inr, length-drop, arith}
-use Rattle.std.specs.Prelude.{slice_get}
+use Rattle.std.specs.Prelude.{◌↔◌, slice_get}
 use Rattle.std.proofs.lemmas.List.{nil_from_length}
 use Rattle.md_graph.specs.PlainGraph.{PlainGraph, adjacent}
 use Rattle.md_script.specs.declared.edit.Edit as script
@@ -60,8 +60,8 @@ text_done Quiet g text told s = absurd (told refl)
 text_done (Of class) g text told s = (Some s.tree, s.fits, refl)
 
 -- what a comparison told that found the text
-pub text_told : {X : Type 0} (r : Result Bool X) (mode : SessionMode) (g : PlainGraph) (text : List ℕ) → r ≡ Ok true → IfOk r (λ fit. IsTrue fit → IsStateText mode g (codes "ok ") text) → IsStateText mode g (codes "ok ") text
-text_told r mode g text so told = subst (λ x. IfOk x (λ fit. IsTrue fit → IsStateText mode g (codes "ok ") text)) so told refl
+pub text_told : {X : Type 0} (r : Result Bool X) (mode : SessionMode) (g : PlainGraph) (text : List ℕ) → r ≡ Ok true → IfOk r (λ fit. IsTrue fit ↔ IsStateText mode g (codes "ok ") text) → IsStateText mode g (codes "ok ") text
+text_told r mode g text so told = (subst (λ x. IfOk x (λ fit. IsTrue fit ↔ IsStateText mode g (codes "ok ") text)) so told).0 refl
 
 -- an item by whose text a line was taken
 pub item_taken : (limit : ℕ) (mode : SessionMode) (g h : PlainGraph) (items left : List (List script.Edit)) (item : Item) (text : List ℕ) → IsJudgedByText true limit mode g items item text h left →

@@ -1,11 +1,11 @@
 -- A graph, of whatever kind, as a comparison with the text of a tree sees it.
 -- Source: Ehrenfeucht and Rozenberg, Theory of 2-structures; the order of the pairs is our own.
-use Rattle.std.specs.Prelude.{◌≡◌, ◌≢◌, ◌<◌, ◌≤◌, ℕ, Bool, true, cond, List, [], length, get_or, Option, Some, None}
+use Rattle.std.specs.Prelude.{◌≡◌, ◌≢◌, ◌↔◌, ◌<◌, ◌≤◌, ℕ, Bool, true, false, cond, List, [], length, get_or, Option, Some, None}
 use Rattle.md_graph.specs.declared.TheConstants.{NAMES}
 use Rattle.md_graph.specs.Sets.{NameSet, Has}
 use Rattle.md_modules.specs.Colours.{IsColouring, AreTold}
 use Rattle.md_tree.specs.Heads.{IsFitNodeBy}
-use Rattle.md_tree.specs.Held.{AscendsIf}
+use Rattle.md_tree.specs.Held.{AscendsIf, MayListIf}
 use Rattle.md_tree.specs.Spellings.{KindRules, PairRules, spelling}
 use Rattle.md_tree.specs.TreeTexts.{tree_text_by}
 use Rattle.md_tree.specs.Trees.{PlainTreeOf, PlainTreesOf, leaf, node, names, EachNode}
@@ -38,7 +38,8 @@ pub record StandForChildren (s : NameSet) (sorts : Bool) (list : List ℕ) : Typ
   pub order : AscendsIf sorts list
 
 -- what holds of each graph: its vertices are names; its colours turn round with the pairs, and are told apart; a prime node has
--- three children, and lists pairs of its children, which ascend where it lists pairs, and by which it tells the colours
+-- three children, and it alone lists pairs of its children, which then ascend; by these pairs, and by no others that it may list,
+-- it tells the colours; another node puts one colour between any two of its children
 pub record IsView {K P : Type 0} (kinds : KindRules K) (pairs : PairRules P) (v : View K P) : Type 0 where
   pub names : (x : ℕ) → Has v.vertices x → x < NAMES
   pub told : AreTold v.Colour
@@ -48,9 +49,12 @@ pub record IsView {K P : Type 0} (kinds : KindRules K) (pairs : PairRules P) (v 
   pub sorts : (k : K) → kinds.lists k ≡ true → kinds.sorts k ≡ true
   pub positions : (list : List ℕ) → StandForChildren v.vertices true list → (i j : ℕ) → i < length list → j < length list →
       v.lists (get_or list i 0) (get_or list j 0) ≡ true → pairs.IsOf (length list) (pairs.pair i j)
-  pub listing : kinds.lists v.prime ≡ true
+  pub listing : (k : K) → (kinds.lists k ≡ true) ↔ (k ≡ v.prime)
   pub joined : (k : K) → kinds.lists k ≡ true → (list : List ℕ) → StandForChildren v.vertices true list →
       AreJoinedBy (v.puts k (head_pairs pairs v.lists list)) v.colours list
+  pub only : (k : K) → kinds.lists k ≡ true → (list : List ℕ) → StandForChildren v.vertices true list → (ps : List P) →
+      MayListIf pairs true (length list) ps → AreJoinedBy (v.puts k ps) v.colours list → ps ≡ head_pairs pairs v.lists list
+  pub even : (k : K) → kinds.lists k ≡ false → (i j m n : ℕ) → v.puts k [] i j ≡ v.puts k [] m n
 
 -- a node outside of which are the others, with the pairs ps and these names of its children, fits the graph, where its children do
 abbrev pub IsFitView : {K P : Type 0} → View K P → NameSet → K → List P → List ℕ → Type 0

@@ -1,12 +1,12 @@
-//! Compares a text with the pairs of a prime node that a graph demands. No pair is kept.
-ghost use Rattle.std.specs.Prelude.{◌≡◌, ◌≢◌, ◌≤◌, true, [], ◌∷◌, ◌++◌, length, take, IfOk, IfSome, OnOk};
+//! Compares a text with the pairs of a prime node that a graph demands. Of these no more are kept
+//! than those of one name.
+ghost use Rattle.std.specs.Prelude.{◌≡◌, ◌≢◌, ◌≤◌, ℕ, List, true, [], ◌∷◌, ◌++◌, length, IfOk, IfSome, IfNone, MatchOption};
 ghost use Rattle.md_graph.specs.declared.TheConstants.{NAMES, WORDS};
 ghost use Rattle.md_tree.specs.TreeTexts.{pairs_text_by};
 ghost use Rattle.md_outline.specs.HeadPairs.{head_pairs, SpellPositions};
 ghost use Rattle.md_checker.specs.TextViews.{StandForChildren};
 
 use crate::text_graph::TextGraph;
-use md_blocks::{Compared, Differs, Target};
 use md_graph::{Memory, Set};
 use md_outline::{PairSpace, put_row};
 use md_text::skip_byte;
@@ -19,6 +19,7 @@ pub(crate) fn past_pairs<'a, K: Lettered, P: Paired, G: TextGraph<K, P, W>, cons
     graph: &G,
     heads: &[u32],
     text: &'a [u8],
+    gathered: &mut Vec<u8>,
     space: &mut PairSpace,
 ) -> Result<Option<&'a [u8]>, Memory>
     requires limit { W ≤ WORDS }
@@ -28,17 +29,25 @@ pub(crate) fn past_pairs<'a, K: Lettered, P: Paired, G: TextGraph<K, P, W>, cons
         head_pairs P.rules (G.view graph.now).lists heads.now ≢ [])) }
     ensures text { IfOk result (λ o. IfSome o (λ tail. text.now ≡ pairs_text_by P.rules 59
         (head_pairs P.rules (G.view graph.now).lists heads.now) ++ 41 ∷ tail.now)) }
+    ensures none { IfOk result (λ o. IfNone o ((tail : List ℕ)
+        → head_pairs P.rules (G.view graph.now).lists heads.now ≢ []
+        → text.now ≢ pairs_text_by P.rules 59
+        (head_pairs P.rules (G.view graph.now).lists heads.now) ++ 41 ∷ tail)) }
 {
     space.places.spell(heads)?;
-    match past_heads::<K, P, G, W>(graph, heads, text, space) {
-        Some(rest) => Ok(past_bracket(rest)),
-        None => Ok(None),
+    let Some(rest) = past_heads::<K, P, G, W>(graph, heads, text, gathered, space)? else {
+        return Ok(None);
+    };
+    if rest.len() == text.len() {
+        return Ok(None);
     }
+    Ok(past_bracket(rest))
 }
 
 // What stands behind the bracket at the end of a node.
 pub(crate) fn past_bracket(text: &[u8]) -> Option<&[u8]>
-    ensures { IfSome result (λ tail. text.now ≡ 41 ∷ tail.now) }
+    ensures { MatchOption result ((tail : List ℕ) → text.now ≢ 41 ∷ tail)
+        (λ tail. text.now ≡ 41 ∷ tail.now) }
 {
     match skip_byte(text, b')') {
         Ok(tail) => Some(tail),
@@ -46,57 +55,40 @@ pub(crate) fn past_bracket(text: &[u8]) -> Option<&[u8]>
     }
 }
 
-// What stands behind the pairs of the heads, if there are some.
+// What stands behind the pairs of the heads; none if the text doesn't begin with them. They are
+// gathered, and compared when many have come.
 fn past_heads<'a, K: Lettered, P: Paired, G: TextGraph<K, P, W>, const W: usize>(
     graph: &G,
     heads: &[u32],
     text: &'a [u8],
+    gathered: &mut Vec<u8>,
     space: &mut PairSpace,
-) -> Option<&'a [u8]>
+) -> Result<Option<&'a [u8]>, Memory>
     requires limit { W ≤ WORDS }
     requires heads { StandForChildren (G.view graph.now).vertices true heads.now }
     requires few { length heads.now ≤ NAMES }
     requires places { SpellPositions space.old.places 0 heads.now }
-    ensures some { IfSome result (λ rest.
-        head_pairs P.rules (G.view graph.now).lists heads.now ≢ []) }
-    ensures text { IfSome result (λ rest. text.now ≡ pairs_text_by P.rules 59
-        (head_pairs P.rules (G.view graph.now).lists heads.now) ++ rest.now) }
-{
-    let mut compared = Compared::new(text);
-    if compare_heads::<K, P, G, W>(graph, heads, &mut compared, space).is_err() {
-        return None;
-    }
-    if compared.same == 0 {
-        return None;
-    }
-    Some(&text[compared.same..])
-}
-
-// Compares the pairs of the heads.
-fn compare_heads<K: Lettered, P: Paired, G: TextGraph<K, P, W>, const W: usize>(
-    graph: &G,
-    heads: &[u32],
-    compared: &mut Compared<'_>,
-    space: &mut PairSpace,
-) -> Result<(), Differs>
-    requires limit { W ≤ WORDS }
-    requires heads { StandForChildren (G.view graph.now).vertices true heads.now }
-    requires few { length heads.now ≤ NAMES }
-    requires places { SpellPositions space.old.places 0 heads.now }
-    ensures text { OnOk result (compared.new.text.now ≡ compared.old.text.now) }
-    ensures same { OnOk result (take compared.new.same compared.new.text.now
-        ≡ take compared.old.same compared.old.text.now ++ pairs_text_by P.rules 59
-        (head_pairs P.rules (G.view graph.now).lists heads.now)) }
+    ensures { IfOk result (λ o. MatchOption o
+        ((tail : List ℕ) → text.now ≢ pairs_text_by P.rules 59
+        (head_pairs P.rules (G.view graph.now).lists heads.now) ++ tail)
+        (λ tail. text.now ≡ pairs_text_by P.rules 59
+        (head_pairs P.rules (G.view graph.now).lists heads.now) ++ tail.now)) }
 {
     let _vertices = graph.vertices();
     space.chunk.clear();
     space.mark = b';';
     let all = Set::from_list(heads);
+    gathered.clear();
+    let mut rest = text;
     for (position, head) in heads.iter().enumerate() {
         let (row, from) = graph.ahead(*head);
         let near = row.and(&all);
-        let low = position as u32;
-        put_row::<P, Differs, Compared<'_>, W>(compared, &near, from, low, space)?;
+        put_row::<P, Memory, Vec<u8>, W>(gathered, &near, from, position as u32, space)?;
+        let Some(tail) = rest.strip_prefix(gathered.as_slice()) else {
+            return Ok(None);
+        };
+        gathered.clear();
+        rest = tail;
     }
-    compared.take_chunk(&mut space.chunk)
+    Ok(space.chunk.strip_from(rest))
 }

@@ -1,7 +1,8 @@
 //! Whether a node fits a graph, of whatever kind, where its children do: names that stand for these
 //! are compared with each other and with the others.
-ghost use Rattle.std.specs.Prelude.{[], true, IfOk, IsTrue};
+ghost use Rattle.std.specs.Prelude.{◌≡◌, ◌↔◌, [], true, false, IfOk, IsTrue};
 ghost use Rattle.std.specs.FinSet.{from_list};
+ghost use Rattle.md_graph.specs.Sets.{NameSet};
 ghost use Rattle.md_modules.specs.Modules.{HasTrivialModulesAlone};
 ghost use Rattle.md_checker.specs.FitTests.{AreAlike, AreJoinedBy};
 ghost use Rattle.md_checker.specs.TextFits.{AreLive, HasOthers};
@@ -26,6 +27,9 @@ pub(crate) fn is_fit_node<K: Lettered, P: Paired, G: TextGraph<K, P, W>, const W
     ensures others { IfOk result (λ fit. IsTrue fit → HasOthers live.old heads.now live.new) }
     ensures fit { IfOk result (λ fit. IsTrue fit → IsFitView (G.view graph.now) live.new kind
         (listed_pairs K.rules P.rules (G.view graph.now) kind heads.now) heads.now) }
+    ensures unfit { IfOk result (λ fit. (others : NameSet) → HasOthers live.old heads.now others
+        → IsFitView (G.view graph.now) others kind
+        (listed_pairs K.rules P.rules (G.view graph.now) kind heads.now) heads.now → IsTrue fit) }
 {
     let _vertices = graph.vertices();
     if kind.lists() {
@@ -43,12 +47,17 @@ fn are_twins<K: Lettered, P: Paired, G: TextGraph<K, P, W>, const W: usize>(
     heads: &[u32],
     live: &mut Set<W>,
 ) -> bool
+    requires lists { K.rules.lists kind ≡ false }
     requires heads { StandForChildren (G.view graph.now).vertices (K.rules.sorts kind) heads.now }
     requires live { AreLive heads.now live.old }
     ensures others { IsTrue result → HasOthers live.old heads.now live.new }
     ensures alike { IsTrue result → AreAlike (G.view graph.now).colours live.new heads.now }
     ensures joined { IsTrue result → AreJoinedBy ((G.view graph.now).puts kind [])
         (G.view graph.now).colours heads.now }
+    ensures other { (others : NameSet) → HasOthers live.old heads.now others
+        → AreAlike (G.view graph.now).colours others heads.now
+        → AreJoinedBy ((G.view graph.now).puts kind []) (G.view graph.now).colours heads.now
+        → IsTrue result }
 {
     let _vertices = graph.vertices();
     let first = heads[0];
@@ -75,10 +84,10 @@ fn is_prime_fit<K: Lettered, P: Paired, G: TextGraph<K, P, W>, const W: usize>(
     live: &mut Set<W>,
 ) -> Result<bool, Memory>
     requires heads { StandForChildren (G.view graph.now).vertices true heads.now }
-    ensures others { IfOk result (λ fit. IsTrue fit → HasOthers live.old heads.now live.new) }
+    ensures others { HasOthers live.old heads.now live.new }
     ensures fit { IfOk result (λ fit. IsTrue fit
-        → AreAlike (G.view graph.now).colours live.new heads.now
-        × HasTrivialModulesAlone (G.view graph.now).colours (from_list heads.now)) }
+        ↔ (AreAlike (G.view graph.now).colours live.new heads.now
+        × HasTrivialModulesAlone (G.view graph.now).colours (from_list heads.now))) }
 {
     let _vertices = graph.vertices();
     let all = Set::from_list(heads);
@@ -96,7 +105,7 @@ fn are_alike<K: Lettered, P: Paired, G: TextGraph<K, P, W>, const W: usize>(
     others: &Set<W>,
 ) -> bool
     requires { StandForChildren (G.view graph.now).vertices true heads.now }
-    ensures { IsTrue result → AreAlike (G.view graph.now).colours others.now heads.now }
+    ensures { IsTrue result ↔ AreAlike (G.view graph.now).colours others.now heads.now }
 {
     let first = heads[0];
     for head in heads {

@@ -1,6 +1,6 @@
 //! Whether a text is that of the tree of a graph that may be a state of a session. One pass tells
 //! both: no bar of a class is searched for.
-ghost use Rattle.std.specs.Prelude.{◌≢◌, ◌≤◌, IfOk, IsTrue};
+ghost use Rattle.std.specs.Prelude.{◌≢◌, ◌↔◌, ◌≤◌, IfOk, IsTrue};
 ghost use Rattle.md_graph.specs.declared.TheConstants.{WORDS};
 ghost use Rattle.md_tree.specs.declared.Kind.TheVariants.{Prime};
 ghost use Rattle.md_bar_tree.specs.Inner.{IsNarrow};
@@ -61,8 +61,8 @@ impl<'a, const W: usize> TextGraph<Kind, Pair, W> for StateText<'a, W> {
 // Whether a node of the kind is not prime, and has at most one child that is a node, if nodes of
 // its kind are asked to in trees of graphs of the class.
 fn has_few_nodes(class: Class, kind: Kind, roots: &[Option<Kind>]) -> bool
-    ensures other { IsTrue result → kind ≢ Prime }
-    ensures few { IsTrue result → IsNarrow class kind → HasOneNode roots.now }
+    ensures { IsTrue result
+        ↔ ((kind ≢ Prime) × (IsNarrow class kind → HasOneNode roots.now)) }
 {
     match kind {
         Kind::Parallel => match class {
@@ -76,7 +76,7 @@ fn has_few_nodes(class: Class, kind: Kind, roots: &[Option<Kind>]) -> bool
 
 // Whether at most one of the roots is that of a node.
 fn has_one_node(roots: &[Option<Kind>]) -> bool
-    ensures { IsTrue result → HasOneNode roots.now }
+    ensures { IsTrue result ↔ HasOneNode roots.now }
 {
     let mut found = false;
     for root in roots {
@@ -89,7 +89,7 @@ fn has_one_node(roots: &[Option<Kind>]) -> bool
 }
 
 // Whether the text is the word and behind it that of the tree of the graph, which may be a state of
-// a session of the mode; a false says nothing. Errors: want of memory.
+// a session of the mode. Errors: want of memory.
 pub(crate) fn is_word_and_state<const W: usize>(
     alloc: Global,
     mode: SessionMode,
@@ -97,7 +97,7 @@ pub(crate) fn is_word_and_state<const W: usize>(
     word: &[u8],
     text: &[u8],
 ) -> Result<bool, Memory>
-    ensures { IfOk result (λ fit. IsTrue fit → IsStateText mode graph.now word.now text.now) }
+    ensures { IfOk result (λ fit. IsTrue fit ↔ IsStateText mode graph.now word.now text.now) }
 {
     graph.vertices().within_limit();
     match text.strip_prefix(word) {

@@ -1,6 +1,6 @@
 //! Whether a text is that of the tree of strong modules of a graph. No tree is built: `fits`
 //! decides the same of a tree that is there.
-ghost use Rattle.std.specs.Prelude.{◌≡◌, ◌++◌, true, Some, IfOk, IsTrue};
+ghost use Rattle.std.specs.Prelude.{◌≡◌, ◌↔◌, ◌++◌, true, Some, IfOk, IsTrue};
 ghost use Rattle.md_graph.specs.PlainGraph.{adjacent};
 ghost use Rattle.md_tree.specs.StrongTrees.{IsTreeOf};
 ghost use Rattle.md_tree.specs.Trees.{PlainTree};
@@ -50,15 +50,14 @@ impl<const W: usize> TextGraph<Kind, Pair, W> for GraphOf<W> {
     }
 }
 
-// Whether bytes are the text of the tree of strong modules of a graph; a false says nothing.
-// Errors: want of memory.
+// Whether bytes are the text of the tree of strong modules of a graph. Errors: want of memory.
 pub(crate) fn is_text_of_tree<const W: usize>(
     alloc: Global,
     graph: &GraphOf<W>,
     text: &[u8],
 ) -> Result<bool, Memory>
-    ensures { IfOk result (λ fit. IsTrue fit → (t : PlainTree) × IsWellFormed (Some t)
-        × IsTreeOf (adjacent graph.now) graph.now.vertices t × (text.now ≡ tree_text t)) }
+    ensures { IfOk result (λ fit. IsTrue fit ↔ ((t : PlainTree) × IsWellFormed (Some t)
+        × IsTreeOf (adjacent graph.now) graph.now.vertices t × (text.now ≡ tree_text t))) }
 {
     let _vertices = graph.vertices();
     is_text_by_rows::<Kind, Pair, GraphOf<W>, W>(alloc, graph, text)
@@ -71,10 +70,11 @@ pub(crate) fn is_word_and_tree<const W: usize>(
     word: &[u8],
     text: &[u8],
 ) -> Result<bool, Memory>
-    ensures { IfOk result (λ fit. IsTrue fit → (t : PlainTree)
+    ensures { IfOk result (λ fit. IsTrue fit ↔ ((t : PlainTree)
         × IsTreeOf (adjacent graph.now) graph.now.vertices t
-        × (text.now ≡ word.now ++ tree_text t)) }
+        × (text.now ≡ word.now ++ tree_text t))) }
 {
+    let _vertices = graph.vertices();
     match text.strip_prefix(word) {
         Some(behind) => is_text_of_tree(alloc, graph, behind),
         None => Ok(false),

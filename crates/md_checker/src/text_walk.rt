@@ -1,14 +1,15 @@
 //! Whether a text is that of the tree of a graph, of whatever kind. No tree is built. Two other
 //! machines go over the same texts: md_tree's `builder` makes the tree, and its `grammar` says
 //! where a text leaves their grammar.
-ghost use Rattle.std.specs.Prelude.{◌≡◌, ◌<◌, ◌≤◌, ◌⊎◌, ◌+◌, ◌*◌, ◌∷◌, ◌++◌, ◌↔◌, [], ℕ, List, true, false, length, drop, take, vec_len, Contains, Some, IfOk, IfSome, IsTrue};
+ghost use Rattle.std.specs.Prelude.{◌≡◌, ◌<◌, ◌≤◌, ◌⊎◌, ◌+◌, ◌*◌, ◌∷◌, ◌++◌, ◌↔◌, ◌≢◌, [], ℕ, List, true, false, length, take, vec_len, Contains, Some, IfOk, IfSome, IfNone, IsTrue, MatchOption};
 ghost use Rattle.std.specs.FinSet.{insert};
 ghost use Rattle.md_graph.specs.declared.TheConstants.{NAMES, WORDS};
-ghost use Rattle.md_text.specs.Fronts.{IsNumberSplit};
+ghost use Rattle.md_graph.specs.Sets.{NameSet};
+ghost use Rattle.md_text.specs.Fronts.{IsNumberSplit, LacksFirst};
 ghost use Rattle.md_tree.specs.Held.{AscendsIf, IsMinimum, MayListIf};
 ghost use Rattle.md_tree.specs.Trees.{PlainTreeOf};
 ghost use Rattle.md_tree.specs.TreeTexts.{pairs_text_by};
-ghost use Rattle.md_checker.specs.TextFits.{opened_at, MayHaveKinds, AreLive, HasOthers, IsRead, IsReadInside, IsReadOn};
+ghost use Rattle.md_checker.specs.TextFits.{opened_at, MayHaveKinds, AreLive, HasOthers, AreNoTreesText, IsRead, IsReadInside, IsReadOn};
 ghost use Rattle.md_checker.specs.TextViews.{StandForChildren, IsFitView, IsTextOfTree, listed_pairs};
 
 use crate::head_pairs::{past_bracket, past_pairs};
@@ -21,8 +22,9 @@ use md_tree::{Lettered, Opened, Paired, ascends, split_letter};
 use std::alloc::Global;
 
 // What is kept of a text that is read: of each finished tree its least name and the kind of its
-// root, if that is a node; the nodes that are open; all names; and, so that the names outside a
-// node are few, the vertices that are not read yet and the least names of the finished trees.
+// root, if that is a node; the nodes that are open; all names; so that the names outside a node are
+// few, the vertices that are not read yet and the least names of the finished trees; and room for
+// the pairs of a node.
 #[derive(Drop)]
 struct Walk<K: Drop, const W: usize> {
     least: Vec<u32>,
@@ -30,21 +32,22 @@ struct Walk<K: Drop, const W: usize> {
     opens: Vec<Opened<K>>,
     seen: Set<W>,
     live: Set<W>,
+    gathered: Vec<u8>,
     space: PairSpace,
 }
 
-/// Whether bytes are the text of the tree of strong modules of a graph; a false says nothing: it is
-/// given up where anything is odd. One pass over the text, no tree is built and no pair is kept: of
-/// the pairs of a prime node those that the rows of the graph demand are compared with the text.
-/// Condition: `W` is at most `WORDS`. Errors: want of memory.
+/// Whether bytes are the text of the tree of strong modules of a graph, and its nodes are such as
+/// are asked for. One pass over the text, no tree is built: of the pairs of a prime node those that
+/// the rows of the graph demand are compared with the text. Condition: `W` is at most `WORDS`.
+/// Errors: want of memory.
 pub fn is_text_by_rows<K: Lettered, P: Paired, G: TextGraph<K, P, W>, const W: usize>(
     alloc: Global,
     graph: &G,
     text: &[u8],
 ) -> Result<bool, Memory>
     requires limit { W ≤ WORDS }
-    ensures text { IfOk result (λ fit. IsTrue fit → (t : PlainTreeOf K P)
-        × IsTextOfTree K.rules P.rules (G.view graph.now) text.now t) }
+    ensures text { IfOk result (λ fit. IsTrue fit ↔ ((t : PlainTreeOf K P)
+        × IsTextOfTree K.rules P.rules (G.view graph.now) text.now t)) }
 {
     let vertices = graph.vertices();
     let size = vertices.count() as usize;
@@ -56,6 +59,7 @@ pub fn is_text_by_rows<K: Lettered, P: Paired, G: TextGraph<K, P, W>, const W: u
         opens: Vec::new(alloc),
         seen: Set::none(),
         live: vertices.copy(),
+        gathered: Vec::new(alloc),
         space: PairSpace::new(alloc),
     };
     let mut rest = text;
@@ -76,8 +80,8 @@ fn is_whole<K: Lettered, P: Paired, G: TextGraph<K, P, W>, const W: usize>(
     graph: &G,
     walk: &Walk<K, W>,
 ) -> bool
-    ensures closed { IsTrue result → walk.now.opens.items ≡ [] }
-    ensures all { IsTrue result → walk.now.seen ≡ (G.view graph.now).vertices }
+    ensures { IsTrue result
+        ↔ ((walk.now.opens.items ≡ []) × (walk.now.seen ≡ (G.view graph.now).vertices)) }
 {
     if !walk.opens.is_empty() {
         return false;
@@ -94,12 +98,15 @@ fn take_step<'a, K: Lettered, P: Paired, G: TextGraph<K, P, W>, const W: usize>(
     behind: bool,
     walk: &mut Walk<K, W>,
 ) -> Result<Option<(&'a [u8], bool)>, Memory>
-    requires { (bytes : List ℕ)
+    requires read { (bytes : List ℕ)
         × IsRead K.rules P.rules (G.view graph.now) bytes text.now behind walk.old }
-    ensures { IfOk result (λ o. IfSome o (λ p. (bytes : List ℕ)
+    requires some { IsTrue behind → 0 < length text.now }
+    ensures { IfOk result (λ o. (bytes : List ℕ)
         → IsRead K.rules P.rules (G.view graph.now) bytes text.now behind walk.old
-        → IsReadOn K.rules P.rules (G.view graph.now) bytes text.now p.0.now p.1 walk.new)) }
+        → MatchOption o (AreNoTreesText K.rules P.rules (G.view graph.now) bytes)
+        (λ p. IsReadOn K.rules P.rules (G.view graph.now) bytes text.now p.0.now p.1 walk.new)) }
 {
+    let _vertices = graph.vertices();
     if behind {
         return step_behind::<K, P, G, W>(alloc, graph, text, walk);
     }
@@ -122,10 +129,10 @@ fn take_name<'a, K: Lettered, P: Paired, G: TextGraph<K, P, W>, const W: usize>(
     tail: &'a [u8],
     walk: &mut Walk<K, W>,
 ) -> Result<Option<(&'a [u8], bool)>, Memory>
-    ensures { IfOk result (λ o. IfSome o (λ p. (bytes text : List ℕ)
-        → IsNumberSplit text name tail.now
+    ensures { IfOk result (λ o. (bytes text : List ℕ) → IsNumberSplit text name tail.now
         → IsRead K.rules P.rules (G.view graph.now) bytes text false walk.old
-        → IsReadOn K.rules P.rules (G.view graph.now) bytes text p.0.now p.1 walk.new)) }
+        → MatchOption o (AreNoTreesText K.rules P.rules (G.view graph.now) bytes)
+        (λ p. IsReadOn K.rules P.rules (G.view graph.now) bytes text p.0.now p.1 walk.new)) }
 {
     walk.seen.within_limit();
     let vertices = graph.vertices();
@@ -141,7 +148,8 @@ fn take_name<'a, K: Lettered, P: Paired, G: TextGraph<K, P, W>, const W: usize>(
     Ok(Some((tail, true)))
 }
 
-// Behind the letter of a node, before whose children `first` trees are finished.
+// Behind the letter of a node, before whose children `first` trees are finished. None if as many
+// nodes are open as there are names, or no bracket stands there.
 fn begin_node<'a, K: Lettered>(
     text: &'a [u8],
     kind: K,
@@ -149,12 +157,14 @@ fn begin_node<'a, K: Lettered>(
     first: usize,
     opens: &mut Vec<Opened<K>>,
 ) -> Result<Option<&'a [u8]>, Memory>
-    requires { text.now ≡ K.rules.letter kind ∷ tail.now }
-    ensures { IfOk result (λ o. IfSome o (λ inside.
-        (text.now ≡ K.rules.letter kind ∷ 40 ∷ inside.now)
+    requires letter { text.now ≡ K.rules.letter kind ∷ tail.now }
+    requires few { first ≤ NAMES }
+    ensures { IfOk result (λ o. MatchOption o
+        ((NAMES ≤ length opens.old.items) ⊎ LacksFirst 40 tail.now)
+        (λ inside. (text.now ≡ K.rules.letter kind ∷ 40 ∷ inside.now)
         × (opens.new.items ≡ opens.old.items ++ opened_at kind first ∷ []))) }
 {
-    if opens.len() >= NAMES as usize || first >= NAMES as usize {
+    if opens.len() >= NAMES as usize {
         return Ok(None);
     }
     match skip_byte(tail, b'(') {
@@ -174,12 +184,15 @@ fn step_behind<'a, K: Lettered, P: Paired, G: TextGraph<K, P, W>, const W: usize
     text: &'a [u8],
     walk: &mut Walk<K, W>,
 ) -> Result<Option<(&'a [u8], bool)>, Memory>
-    requires { (bytes : List ℕ)
+    requires read { (bytes : List ℕ)
         × IsRead K.rules P.rules (G.view graph.now) bytes text.now true walk.old }
-    ensures { IfOk result (λ o. IfSome o (λ p. (bytes : List ℕ)
+    requires some { 0 < length text.now }
+    ensures { IfOk result (λ o. (bytes : List ℕ)
         → IsRead K.rules P.rules (G.view graph.now) bytes text.now true walk.old
-        → IsReadOn K.rules P.rules (G.view graph.now) bytes text.now p.0.now p.1 walk.new)) }
+        → MatchOption o (AreNoTreesText K.rules P.rules (G.view graph.now) bytes)
+        (λ p. IsReadOn K.rules P.rules (G.view graph.now) bytes text.now p.0.now p.1 walk.new)) }
 {
+    let _vertices = graph.vertices();
     if let Ok(tail) = skip_byte(text, b',') {
         if walk.opens.is_empty() {
             return Ok(None);
@@ -203,11 +216,14 @@ fn end_node<'a, K: Lettered, P: Paired, G: TextGraph<K, P, W>, const W: usize>(
     inner: Opened<K>,
     walk: &mut Walk<K, W>,
 ) -> Result<Option<&'a [u8]>, Memory>
-    requires { (bytes : List ℕ)
+    requires read { (bytes : List ℕ)
         × IsReadInside K.rules P.rules (G.view graph.now) bytes text.now inner walk.old }
-    ensures { IfOk result (λ o. IfSome o (λ tail. (bytes : List ℕ)
+    requires no_comma { LacksFirst 44 text.now }
+    ensures { IfOk result (λ o. (bytes : List ℕ)
         → IsReadInside K.rules P.rules (G.view graph.now) bytes text.now inner walk.old
-        → IsReadOn K.rules P.rules (G.view graph.now) bytes text.now tail.now true walk.new)) }
+        → MatchOption o (AreNoTreesText K.rules P.rules (G.view graph.now) bytes)
+        (λ tail.
+        IsReadOn K.rules P.rules (G.view graph.now) bytes text.now tail.now true walk.new)) }
 {
     walk.seen.within_limit();
     let _vertices = graph.vertices();
@@ -224,8 +240,16 @@ fn end_node<'a, K: Lettered, P: Paired, G: TextGraph<K, P, W>, const W: usize>(
         return Ok(None);
     }
     let least = least_name(inner.kind, heads);
-    let (live, space) = (&mut walk.live, &mut walk.space);
-    let Some(tail) = past_end::<K, P, G, W>(alloc, graph, text, inner.kind, heads, live, space)?
+    let Some(tail) = past_end::<K, P, G, W>(
+        alloc,
+        graph,
+        text,
+        inner.kind,
+        heads,
+        &mut walk.live,
+        &mut walk.gathered,
+        &mut walk.space,
+    )?
     else {
         return Ok(None);
     };
@@ -267,19 +291,26 @@ fn past_end<'a, K: Lettered, P: Paired, G: TextGraph<K, P, W>, const W: usize>(
     kind: K,
     heads: &[u32],
     live: &mut Set<W>,
+    gathered: &mut Vec<u8>,
     space: &mut PairSpace,
 ) -> Result<Option<&'a [u8]>, Memory>
     requires heads { StandForChildren (G.view graph.now).vertices (K.rules.sorts kind) heads.now }
     requires few { length heads.now ≤ NAMES }
     requires live { AreLive heads.now live.old }
-    ensures { IfOk result (λ o. IfSome o (λ tail. (ps : List P)
+    ensures past { IfOk result (λ o. IfSome o (λ tail. (ps : List P)
         × MayListIf P.rules (K.rules.lists kind) (length heads.now) ps
         × HasOthers live.old heads.now live.new
         × IsFitView (G.view graph.now) live.new kind ps heads.now
         × (text.now ≡ pairs_text_by P.rules 59 ps ++ 41 ∷ tail.now))) }
+    ensures none { IfOk result (λ o. IfNone o ((ps : List P) (tail : List ℕ) (others : NameSet)
+        → MayListIf P.rules (K.rules.lists kind) (length heads.now) ps
+        → HasOthers live.old heads.now others
+        → IsFitView (G.view graph.now) others kind ps heads.now
+        → text.now ≢ pairs_text_by P.rules 59 ps ++ 41 ∷ tail)) }
 {
     live.within_limit();
-    let Some(tail) = past_listed::<K, P, G, W>(graph, text, kind, heads, space)? else {
+    let _vertices = graph.vertices();
+    let Some(tail) = past_listed::<K, P, G, W>(graph, text, kind, heads, gathered, space)? else {
         return Ok(None);
     };
     if !is_fit_node::<K, P, G, W>(alloc, graph, kind, heads, live)? {
@@ -294,6 +325,7 @@ fn past_listed<'a, K: Lettered, P: Paired, G: TextGraph<K, P, W>, const W: usize
     text: &'a [u8],
     kind: K,
     heads: &[u32],
+    gathered: &mut Vec<u8>,
     space: &mut PairSpace,
 ) -> Result<Option<&'a [u8]>, Memory>
     requires limit { W ≤ WORDS }
@@ -304,17 +336,22 @@ fn past_listed<'a, K: Lettered, P: Paired, G: TextGraph<K, P, W>, const W: usize
         (listed_pairs K.rules P.rules (G.view graph.now) kind heads.now))) }
     ensures text { IfOk result (λ o. IfSome o (λ tail. text.now ≡ pairs_text_by P.rules 59
         (listed_pairs K.rules P.rules (G.view graph.now) kind heads.now) ++ 41 ∷ tail.now)) }
+    ensures none { IfOk result (λ o. IfNone o ((tail : List ℕ)
+        → MayListIf P.rules (K.rules.lists kind) (length heads.now)
+        (listed_pairs K.rules P.rules (G.view graph.now) kind heads.now)
+        → text.now ≢ pairs_text_by P.rules 59
+        (listed_pairs K.rules P.rules (G.view graph.now) kind heads.now) ++ 41 ∷ tail)) }
 {
     let _vertices = graph.vertices();
     if !kind.lists() {
         return Ok(past_bracket(text));
     }
-    past_pairs::<K, P, G, W>(graph, heads, text, space)
+    past_pairs::<K, P, G, W>(graph, heads, text, gathered, space)
 }
 
 // Whether a node of the kind may have children whose roots are of these kinds.
 fn may_have<K: Lettered>(kind: K, children: &[Option<K>]) -> bool
-    ensures { IsTrue result → MayHaveKinds K.rules kind children.now }
+    ensures { IsTrue result ↔ MayHaveKinds K.rules kind children.now }
 {
     if children.len() < kind.least_count() {
         return false;
@@ -324,7 +361,7 @@ fn may_have<K: Lettered>(kind: K, children: &[Option<K>]) -> bool
 
 // Whether none of the children is a node of the kind.
 fn lacks_kind<K: Lettered>(kind: K, children: &[Option<K>]) -> bool
-    ensures { IsTrue result → Contains children.now (Some kind) → ⊥ }
+    ensures { IsTrue result ↔ (Contains children.now (Some kind) → ⊥) }
 {
     for child in children {
         if is_of_kind(child, kind) {
@@ -345,7 +382,7 @@ fn is_of_kind<K: Lettered>(root: &Option<K>, kind: K) -> bool
 
 // Whether children with these least names may stand so in a node of the kind.
 fn may_stand<K: Lettered>(kind: K, least: &[u32]) -> bool
-    ensures { IsTrue result → AscendsIf (K.rules.sorts kind) least.now }
+    ensures { IsTrue result ↔ AscendsIf (K.rules.sorts kind) least.now }
 {
     !kind.sorts() || ascends(least)
 }

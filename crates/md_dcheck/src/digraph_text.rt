@@ -1,8 +1,11 @@
 //! Whether a text is that of the tree of strong modules of a directed graph. No tree is built.
-ghost use Rattle.std.specs.Prelude.{◌≡◌, ◌≤◌, ℕ, [], IfOk, IsTrue};
+ghost use Rattle.std.specs.Prelude.{◌≡◌, ◌↔◌, ◌≤◌, ℕ, false, [], Some, IfOk, IsTrue};
+ghost use Rattle.md_digraph.specs.PlainDigraph.{has_arc_to};
 ghost use Rattle.md_graph.specs.declared.TheConstants.{WORDS};
 ghost use Rattle.md_dtree.specs.DirectedFits.{puts_arcs};
-ghost use Rattle.md_dcheck.specs.DueDigraphs.{HasTreeText};
+ghost use Rattle.md_dtree.specs.DirectedSpelling.{lists_arcs};
+ghost use Rattle.md_dtree.specs.DirectedTexts.{directed_text_of};
+ghost use Rattle.md_dtree.specs.DirectedTrees.{PlainDTree, IsDirectedTree};
 
 use crate::head_rows::has_arcs;
 use crate::lone_modules::has_trivial_modules_alone;
@@ -58,7 +61,8 @@ impl<'a, const W: usize> TextGraph<DKind, DPair, W> for DigraphText<'a, W> {
 // Whether nodes of the kind put these arcs, there and back, between any two of their children; no,
 // if they list pairs.
 fn are_put(kind: DKind, there: bool, back: bool) -> bool
-    ensures { IsTrue result → (i j : ℕ) → (there, back) ≡ puts_arcs kind [] i j }
+    ensures { IsTrue result ↔ ((lists_arcs kind ≡ false)
+        × ((i j : ℕ) → (there, back) ≡ puts_arcs kind [] i j)) }
 {
     match kind {
         DKind::Parallel => !(there | back),
@@ -68,14 +72,16 @@ fn are_put(kind: DKind, there: bool, back: bool) -> bool
     }
 }
 
-// Whether bytes are the text of the tree of the directed graph; a false says nothing. Errors: want
-// of memory.
+// Whether bytes are the text of the tree of the directed graph, if it has one. Errors: want of
+// memory.
 pub(crate) fn is_text_of_tree<const W: usize>(
     alloc: Global,
     graph: &DigraphOf<W>,
     text: &[u8],
 ) -> Result<bool, Memory>
-    ensures { IfOk result (λ fit. IsTrue fit → HasTreeText graph.now text.now) }
+    ensures { IfOk result (λ fit. IsTrue fit ↔ ((t : PlainDTree)
+        × IsDirectedTree (has_arc_to graph.now) graph.now.vertices (Some t)
+        × (text.now ≡ directed_text_of (Some t)))) }
 {
     graph.vertices().within_limit();
     let compared = DigraphText { graph };

@@ -4,7 +4,7 @@ use Rattle.md_checker.proofs.due_graph.reports_by_text.Goals as goal
 
 pub returns-in-Tree : goal.returns-in-Tree
 returns-in-Tree g c =
-    if_ok c.is_word_and_tree.result (λ fit told yes. let t = told yes in tree_reports c.args.mode c.args.graph.now t.0 c.args.text.now c.in-Tree.is t.1 t.2) c.is_word_and_tree.ensures
+    if_ok c.is_word_and_tree.result (λ fit told yes. let t = told.0 yes in tree_reports c.args.mode c.args.graph.now t.0 c.args.text.now c.in-Tree.is t.1 t.2) c.is_word_and_tree.ensures
 
 pub returns-in-Compare : goal.returns-in-Compare
 returns-in-Compare g c =

@@ -1,4 +1,4 @@
-use Rattle.std.proofs.Common.{cond, [], sym, ◌∙◌, ap, subst, rules}
+use Rattle.std.proofs.Common.{cond, [], sym, ◌∙◌, subst, rules}
 use Rattle.md_graph.proofs.SetLemmas.{clash}
 use Rattle.md_tree.proofs.Stacking.{if_ok}
 use Rattle.md_checker.specs.FitTests.{AreJoinedBy}
@@ -12,6 +12,9 @@ is_prime_fit-requires g c =
     let lists = sym c.lists.ensures ∙ c.if-lists.true in
     (search rules, subst (λ b. StandForChildren view.vertices b c.args.heads.now) (c.vertices-vertices.ensures.view.sorts c.args.kind lists) c.requires.heads)
 
+pub are_twins-requires : goal.are_twins-requires
+are_twins-requires g c = (search rules, (sym c.lists.ensures ∙ c.if-lists.false, (c.requires.heads, c.requires.live)))
+
 pub returns-then-lists : goal.returns-then-lists
 returns-then-lists g c =
     let view = g.G.TextGraph.view c.args.graph.now in
@@ -22,8 +25,10 @@ returns-then-lists g c =
     let joined =
     subst (λ b. AreJoinedBy (view.puts c.args.kind (cond b (head_pairs g.P.Paired.rules view.lists heads) [])) view.colours heads) (sym lists) (is_view.joined c.args.kind lists heads stand) in
     record {
-      others = c.is_prime_fit.ensures.others;
-      fit = if_ok c.is_prime_fit.result (λ fit told yes. let two = told yes in record { alike = two.0; joined = joined; trivial = λ prime. two.1 }) c.is_prime_fit.ensures.fit;
+      others = if_ok c.is_prime_fit.result (λ fit told yes. c.is_prime_fit.ensures.others) c.is_prime_fit.ensures.fit;
+      fit = if_ok c.is_prime_fit.result (λ fit told yes. let two = told.0 yes in record { alike = two.0; joined = joined; trivial = λ prime. two.1 }) c.is_prime_fit.ensures.fit;
+      unfit = if_ok c.is_prime_fit.result
+          (λ fit told others are fits. told.1 (λ i y below h. fits.alike i y below ((are y).1 ((c.is_prime_fit.ensures.others y).0 h)), fits.trivial ((is_view.listing c.args.kind).0 lists))) c.is_prime_fit.ensures.fit;
     }
 
 pub returns : goal.returns
@@ -37,6 +42,8 @@ returns g c =
       fit = λ yes. record {
         alike = c.are_twins.ensures.alike yes;
         joined = subst (λ b. AreJoinedBy (view.puts c.args.kind (cond b (head_pairs g.P.Paired.rules view.lists heads) [])) view.colours heads) (sym none) (c.are_twins.ensures.joined yes);
-        trivial = λ prime. clash (ap g.K.Lettered.rules.lists prime ∙ is_view.listing) none;
+        trivial = λ prime. clash ((is_view.listing c.args.kind).1 prime) none;
       };
+      unfit = λ others are fits. c.are_twins.ensures.other others are fits.alike
+          (subst (λ b. AreJoinedBy (view.puts c.args.kind (cond b (head_pairs g.P.Paired.rules view.lists heads) [])) view.colours heads) none fits.joined);
     }

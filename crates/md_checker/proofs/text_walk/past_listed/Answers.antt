@@ -3,7 +3,7 @@ use Rattle.md_tree.specs.Held.{MayListIf}
 use Rattle.md_tree.proofs.Stacking.{if_ok}
 use Rattle.md_outline.specs.HeadPairs.{head_pairs}
 use Rattle.md_checker.specs.TextViews.{StandForChildren}
-use Rattle.md_checker.proofs.HeadPairs.{heads_listed, if_some}
+use Rattle.md_checker.proofs.HeadPairs.{heads_listed, if_some, lacks_listed}
 use Rattle.md_checker.proofs.text_walk.past_listed.Goals as goal
 
 pub returns-clause-may : goal.returns-clause-may
@@ -18,3 +18,10 @@ returns-clause-may g c =
     (λ tail some. subst (λ b. MayListIf g.P.Paired.rules b (length heads) (cond b (head_pairs g.P.Paired.rules view.lists heads) [])) (sym lists)
     (heads_listed g.met.P.Paired.laws view.lists heads (is_view.positions heads stand) some)) each)
     c.past_pairs.ensures.some
+
+pub returns-clause-none : goal.returns-clause-none
+returns-clause-none g c =
+    let heads = c.args.heads.now in
+    if_ok c.past_pairs.result
+    (λ o none. lacks_listed g.P.Paired.rules (g.K.Lettered.rules.lists c.args.kind) (length heads) (head_pairs g.P.Paired.rules (g.G.TextGraph.view c.args.graph.now).lists heads) c.args.text.now o (sym c.lists.ensures ∙ c.if-not-lists.false) none)
+    c.past_pairs.ensures.none

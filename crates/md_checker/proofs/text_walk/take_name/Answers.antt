@@ -2,8 +2,20 @@ use Rattle.std.proofs.Common.{sym, ◌∙◌, ap}
 use Rattle.std.specs.FinSet.{contains}
 use Rattle.md_text.proofs.FrontLemmas.{number_shorter}
 use Rattle.md_tree.proofs.Spelled.{is_spelling}
-use Rattle.md_checker.proofs.TextWalk.{read_name}
+use Rattle.md_checker.proofs.TextWalk.{read_name, other_name, known_name}
 use Rattle.md_checker.proofs.text_walk.take_name.Goals as goal
+
+pub returns-then-not-has : goal.returns-then-not-has
+returns-then-not-has g c bytes text split r =
+    let walk = c.args.walk.now in
+    other_name (is_spelling g.met.K.Lettered.laws g.met.P.Paired.laws) (g.G.TextGraph.view c.args.graph.now) c.vertices-vertices.ensures.view bytes text walk.least.items walk.roots.items walk.opens.items walk.seen walk.live c.args.tail.now c.args.name r split
+    (ap (λ s. contains s c.args.name) (sym c.vertices-vertices.ensures.set) ∙ sym c.has.ensures.value ∙ c.if-not-has.true)
+
+pub returns-then-has : goal.returns-then-has
+returns-then-has g c bytes text split r =
+    let walk = c.args.walk.now in
+    known_name (is_spelling g.met.K.Lettered.laws g.met.P.Paired.laws) (g.G.TextGraph.view c.args.graph.now) c.vertices-vertices.ensures.view bytes text walk.least.items walk.roots.items walk.opens.items walk.seen walk.live c.args.tail.now c.args.name r split
+    (sym c.has-2.ensures.value ∙ c.if-has.true)
 
 pub returns : goal.returns
 returns g c bytes text split r =

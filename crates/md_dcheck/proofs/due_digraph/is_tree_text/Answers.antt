@@ -1,7 +1,11 @@
+use Rattle.std.proofs.Common.{Some, refl}
 use Rattle.md_tree.specs.Plain.{plain_option}
 use Rattle.md_tree.proofs.Stacking.{if_ok}
 use Rattle.md_dcheck.proofs.DirectedJudged.{fits_text, unread_syntax, unread_canonical}
 use Rattle.md_dcheck.proofs.due_digraph.is_tree_text.Goals as goal
+
+pub returns-then-branch : goal.returns-then-branch
+returns-then-branch g c = (λ yes. let t = c.in_ok-is_text_of_tree.ensures.0 c.if-branch.true in (Some t.0, t.1, t.2), λ has. refl)
 
 pub returns-in-Ok : goal.returns-in-Ok
 returns-in-Ok g c =

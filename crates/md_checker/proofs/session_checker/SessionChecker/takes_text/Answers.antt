@@ -15,7 +15,7 @@ returns-else-not-branch-clause-takes g c t =
     let s = c.self.inside in
     let is = c.in-First.is in let p = c.in-Some.ensures in let may = rw is at p in
     takes_first true s.due s.mode (state_of s.graph s.history.items) (drop s.answered s.script) c.args.text.now c.args.self.now c.self.view_is may (ap (graphs_before s.graph) (c.self.invariant.1.state may.0))
-    (c.in_ok-is_word_and_state-in-First.ensures c.if-not-branch.false)
+    (c.in_ok-is_word_and_state-in-First.ensures.0 c.if-not-branch.false)
 
 pub returns-else-not-branch-3-clause-takes : goal.returns-else-not-branch-3-clause-takes
 returns-else-not-branch-3-clause-takes g c t =
@@ -25,7 +25,7 @@ returns-else-not-branch-3-clause-takes g c t =
     let count = c.len.ensures.count in
     let past : length s.script ≤ s.answered = grind (arith, nat_tests) in
     takes_last _ s.due s.mode (state_of s.graph s.history.items) s.script s.answered c.args.text.now c.args.self.now c.self.view_is may past (λ d. ap (graphs_before s.graph) (c.self.invariant.1.state d))
-    (c.in_ok-is_word_and_state-in-Last.ensures c.if-not-branch-3.false)
+    (c.in_ok-is_word_and_state-in-Last.ensures.0 c.if-not-branch-3.false)
 
 pub returns-else-not-branch-2-clause-takes : goal.returns-else-not-branch-2-clause-takes
 returns-else-not-branch-2-clause-takes g c t =

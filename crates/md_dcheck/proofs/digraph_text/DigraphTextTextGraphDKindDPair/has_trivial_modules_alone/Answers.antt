@@ -1,5 +1,4 @@
-use Rattle.md_tree.proofs.Stacking.{if_ok}
 use Rattle.md_dcheck.proofs.digraph_text.DigraphTextTextGraphDKindDPair.has_trivial_modules_alone.Goals as goal
 
 pub returns : goal.returns
-returns g c = record { trivial = if_ok c.has_trivial_modules_alone.result (λ alone told yes. told.0 yes) c.has_trivial_modules_alone.ensures }
+returns g c = record { trivial = c.has_trivial_modules_alone.ensures }
