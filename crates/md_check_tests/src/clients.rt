@@ -1,6 +1,7 @@
 //! What a program over the crates of reports and checks can promise, proved from the contracts of
 //! their public calls alone.
-ghost use Rattle.std.specs.Prelude.{◌≡◌, ◌↔◌, List, [], ◌∷◌, Option, IfOk, IsTrue};
+ghost use Rattle.std.specs.Prelude.{◌≡◌, ◌↔◌, List, [], ◌∷◌, Option, IfOk, IfErr, IsTrue};
+ghost use Rattle.std.specs.Option.{option_or};
 ghost use Rattle.md_graph.specs.PlainGraph.{PlainGraph, adjacent};
 ghost use Rattle.md_digraph.specs.PlainDigraph.{PlainDigraph};
 ghost use Rattle.md_digraph6.specs.ArcFile.{SpellsDigraphs};
@@ -10,8 +11,11 @@ ghost use Rattle.md_tree.specs.TreeTexts.{text_of};
 ghost use Rattle.md_script.specs.declared.item.Item.{Item};
 ghost use Rattle.md_script.specs.File.{SpellsScript};
 ghost use Rattle.md_input.specs.Spelling.{SpellsGraphs};
+ghost use Rattle.md_input.specs.Faults.{graph_fault, one_graph_fault, script_fault, IsStopAt};
+ghost use Rattle.md_report.specs.Lines.{limit_of_mode};
 ghost use Rattle.md_report.specs.Places.{before_head, before_session};
 ghost use Rattle.md_report.specs.Reports.{IsReport};
+ghost use Rattle.md_dcheck.specs.DirectedFaults.{digraph_fault};
 ghost use Rattle.md_dcheck.specs.DirectedReports.{before_directed, IsDirectedReport};
 
 use md_checker::{CheckAnswer, check_graphs, check_session, fits};
@@ -34,6 +38,7 @@ pub fn is_valid_report(
     ensures valid { IfOk result (λ is. (graphs : List PlainGraph)
         × SpellsGraphs from graph.now graphs
         × (IsTrue is ↔ IsReport (before_head mode graphs) report.now)) }
+    ensures stops { IfErr result (IsStopAt (graph_fault (limit_of_mode mode) from graph.now)) }
 {
     match check_graphs(alloc, mode, from, graph, report)? {
         CheckAnswer::Accepted => Ok(true),
@@ -54,6 +59,8 @@ pub fn is_valid_session_report(
     ensures valid { IfOk result (λ is. (g : PlainGraph) × (items : List Item)
         × SpellsGraphs from graph.now (g ∷ []) × SpellsScript script.now items
         × (IsTrue is ↔ IsReport (before_session mode g items) report.now)) }
+    ensures stops { IfErr result (IsStopAt
+        (option_or (one_graph_fault from graph.now) (script_fault script.now))) }
 {
     let answer = check_session(alloc, mode, from, graph, script, report)?;
     Ok(matches!(answer, CheckAnswer::Accepted))
@@ -69,6 +76,7 @@ pub fn is_valid_directed_report(
     ensures valid { IfOk result (λ is. (digraphs : List PlainDigraph)
         × SpellsDigraphs graph.now digraphs
         × (IsTrue is ↔ IsDirectedReport (before_directed digraphs) report.now)) }
+    ensures stops { IfErr result (IsStopAt (digraph_fault graph.now)) }
 {
     let answer = check_directed(alloc, graph, report)?;
     Ok(!matches!(answer, CheckAnswer::Rejected(_)))
