@@ -1,6 +1,6 @@
 //! What a program over the crates of graphs can promise, proved from the contracts of their public
 //! calls alone.
-ghost use Rattle.std.specs.Prelude.{◌↔◌, ◌*◌, ℕ, ◌<◌, List, IfOk, IsTrue};
+ghost use Rattle.std.specs.Prelude.{◌↔◌, ℕ, List, IfOk, IsTrue};
 ghost use Rattle.md_graph.specs.Sets.{NameSet, Has, Lacks};
 ghost use Rattle.md_graph.specs.PlainGraph.{adjacent};
 ghost use Rattle.md_modules.specs.Modules.{IsModule};
