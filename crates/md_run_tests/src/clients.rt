@@ -34,7 +34,7 @@ pub fn are_in_no_form<F: Files, O: Sink, E: Sink>(
 ) -> bool
     ensures exactly { IsTrue result ↔ (request_of (texts words.now) ≡ None) }
 {
-    run(alloc, words, files, out, err) == Status::Usage
+    matches!(run(alloc, words, files, out, err), Status::Usage)
 }
 
 /// The exit code of a run: 2 exactly where the words are in no form, and 0 or 1 only where the input
