@@ -8,15 +8,15 @@ use Rattle.std.specs.Prelude.{◌↔◌, is_some}
 use Rattle.std.specs.FinSet.{contains, insert, empty, difference, from_list}
 use Rattle.md_graph.specs.declared.TheConstants.{NAMES}
 use Rattle.md_graph.specs.Sets.{NameSet, Has, Lacks, Within}
-use Rattle.md_graph.proofs.SetLemmas.{clash, empty_lacks, of_insert, insert_new, insert_old, of_minus, lacks_within, Has-along, same_members, same_name, insert_lacks, only_has, union_left, union_right}
+use Rattle.md_graph.proofs.SetLemmas.{clash, empty_lacks, of_insert, insert_new, insert_old, of_minus, lacks_within, Has-along, same_members, same_name, insert_lacks, only_has}
 use Rattle.md_modules.specs.Modules.{IsModule}
 use Rattle.md_text.proofs.Lists.{In, to_contains, of_contains}
 use Rattle.md_text.specs.Fronts.{IsNumberSplit, LacksFirst, LacksNumber}
 use Rattle.md_tree.specs.declared.builder.Opened.{Opened}
 use Rattle.md_tree.specs.Heads.{head_at}
 use Rattle.md_tree.specs.Held.{AreKept, IsDue, AreLeast, AscendsIf, IsMinimum, MayHave, HasOthersIf, MayListIf, AreUseless, befores}
-use Rattle.md_tree.specs.Residual.{OpenNode, ahead, closed, Follows, Due}
-use Rattle.md_tree.specs.Spellings.{KindRules, PairRules, Spelling, spelling, IsSpelling}
+use Rattle.md_tree.specs.Residual.{closed, Due}
+use Rattle.md_tree.specs.Spellings.{KindRules, PairRules, spelling, IsSpelling}
 use Rattle.md_tree.specs.TreeGraph.{position_of}
 use Rattle.md_tree.specs.TreeTexts.{pairs_text_by, row_text_by, tree_text_by}
 use Rattle.md_tree.specs.Trees.{PlainTreeOf, PlainTreesOf, leaf, node, no_tree, one_more, names, names_below, names_at, count, row, EachNode, EachNodeBelow}
@@ -25,7 +25,7 @@ use Rattle.md_tree.proofs.Fitted.{child_modules}
 use Rattle.md_tree.proofs.Folding.{count_row, each_join, each_parts}
 use Rattle.md_tree.proofs.Heads.{heads_in}
 use Rattle.md_tree.proofs.Holding.{lacks_if, kept_none, kept_name, kept_closed, least_drop, least_length, names_right, names_to_one, names_of_one, shape_has, of_order_if, shape_lists}
-use Rattle.md_tree.proofs.Coming.{due_start, due_name, due_node, behind_comma, behind_inside, behind_end, inside_end, inside_first, few_held, useless_name, useless_number, useless_deep, useless_letter, useless_over, useless_open}
+use Rattle.md_tree.proofs.Coming.{part_names, due_start, due_name, due_node, behind_comma, behind_inside, behind_end, inside_end, inside_first, few_held, useless_name, useless_number, useless_deep, useless_letter, useless_over, useless_open}
 use Rattle.md_tree.proofs.Nodes.{IsChild, at_apart, at_inside, at_position, child_at, position_below}
 use Rattle.md_tree.proofs.Residuals.{tree_step, each_follows}
 use Rattle.md_tree.proofs.Texts.{same_text, row_spelled}
@@ -73,16 +73,6 @@ module _ {K P : Type 0} where
 
   kinds_of_has : (r : KindRules K) (k : K) (ts : List (PlainTreeOf K P)) → MayHave r k (row ts) → MayHaveKinds r k (map root_kind ts)
   kinds_of_has r k ts h = (subst (λ n. r.least_count k ≤ n) (count_row ts ∙ sym (length-map ts root_kind)) h.0, lacks_kinds_if (r.lists k) k ts h.1)
-
--- the names of a part of a tree
-module _ {K P : Type 0} (sp : Spelling K P) where
-  ahead_has : (xs : List (PlainTreeOf K P)) (t : PlainTreeOf K P) (cs : PlainTreesOf K P) (x : ℕ) → Has (names t) x → Has (names_below (ahead xs (one_more t cs))) x
-  ahead_has [] t cs x h = union_left (names t) (names_below cs) x h
-  ahead_has (y ∷ xs) t cs x h = union_right (names y) (names_below (ahead xs (one_more t cs))) x (ahead_has xs t cs x h)
-
-  part_names : (s : List (OpenNode K P)) (t : PlainTreeOf K P) (r : List ℕ) (w : PlainTreeOf K P) → Follows sp s t r w → (x : ℕ) → Has (names t) x → Has (names w) x
-  part_names [] t r w f x h = subst (λ y. Has (names y) x) (sym f.1) h
-  part_names (o ∷ s) t r w f x h = part_names s (closed o t f.others f.pairs) f.behind w f.whole x (ahead_has o.before t f.others x h)
 
 -- the pairs of a node that fits are those that the graph demands
 pub pairs_only : {K P : Type 0} {kinds : KindRules K} {pairs : PairRules P} {v : View K P} → IsView kinds pairs v → (k : K) (list : List ℕ) → StandForChildren v.vertices (kinds.sorts k) list → (ps : List P) → MayListIf pairs (kinds.lists k) (length list) ps →
@@ -241,7 +231,7 @@ module _ {K P : Type 0} {kinds : KindRules K} {pairs : PairRules P} (law : IsSpe
       other_name tail n r split lacks t is =
           let d = r.comes in
           let f = (tree_step law d.nodes (leaf n) tail t split.1).0 (subst (λ y. Due (spelling kinds pairs) d.nodes y t) split.0 ((d.means t).0 is.spelled)) in
-          clash (subst (λ s. Has s n) is.names_are (part_names (spelling kinds pairs) d.nodes (leaf n) tail t f n (only_has n))) lacks
+          clash (subst (λ s. Has s n) is.names_are (part_names law d.nodes (leaf n) tail t f n (only_has n))) lacks
 
       pub known_name : (tail : List ℕ) (n : ℕ) → IsReadBy kinds pairs v bytes text false list roots opens seen live → IsNumberSplit text n tail → Has seen n → AreNoTreesText kinds pairs v bytes
       known_name tail n r split known = no_text bytes (useless_name law bytes text opens r.trees list seen n tail r.walked.kept r.comes split (inr known))

@@ -259,7 +259,7 @@ module _ {K P : Type 0} {sp : Spelling K P} (law : IsSpelling sp) where
     | inr i ↦ ahead_apart xs t cs a.1 x h i
   ]
 
-  part_names : (s : List (OpenNode K P)) (t : PlainTreeOf K P) (r : List ℕ) (w : PlainTreeOf K P) → Follows sp s t r w → (x : ℕ) → Has (names t) x → Has (names w) x
+  pub part_names : (s : List (OpenNode K P)) (t : PlainTreeOf K P) (r : List ℕ) (w : PlainTreeOf K P) → Follows sp s t r w → (x : ℕ) → Has (names t) x → Has (names w) x
   part_names [] t r w f x h = subst (λ y. Has (names y) x) (sym f.1) h
   part_names (o ∷ s) t r w f x h = part_names s (closed o t f.others f.pairs) f.behind w f.whole x (ahead_has o.before t f.others x h)
 
