@@ -1,12 +1,12 @@
 -- Two vertices that cross are part of a bar, and each vertex of a cycle, and of two edges, crosses another one.
-use Rattle.std.proofs.Common.{◌≡◌, ◌≢◌, ℕ, ◌<◌, Bool, true, false, not, ◌⊎◌, refl, sym, ◌∙◌, subst, inl, inr}
+use Rattle.std.proofs.Common.{◌≡◌, ◌≢◌, ℕ, ◌<◌, Bool, true, false, ◌⊎◌, refl, sym, ◌∙◌, subst, inl, inr}
 use Rattle.std.proofs.lemmas.Bool.{cases_order}
 use Rattle.std.specs.FinSet.{remove, difference}
 use Rattle.md_graph.specs.PlainGraph.{PlainGraph, IsGraph, adjacent, neighbours}
 use Rattle.md_graph.specs.Sets.{NameSet, Has}
 use Rattle.md_graph.specs.Adjacency.{IsAdjacency}
 use Rattle.md_graph.proofs.GraphLemmas.{adjacent_ends, contains-neighbours}
-use Rattle.md_graph.proofs.SetLemmas.{clash, of_remove, remove_left, of_minus, minus_has}
+use Rattle.md_graph.proofs.SetLemmas.{of_remove, remove_left, of_minus, minus_has}
 use Rattle.md_modules.specs.InducedPaths.{HasPathEdges}
 use Rattle.md_modules.proofs.PathSearch.{path_of_edges, turned_edges, ends_differ}
 use Rattle.md_modules.proofs.Turns.{graph_adjacency}
@@ -16,7 +16,7 @@ use Rattle.md_bar_tree.specs.declared.Bar.{Bar}
 use Rattle.md_bar_tree.specs.declared.BarKind.{BarKind}
 use Rattle.md_bar_tree.specs.declared.BarKind.TheVariants.{P4, C4, TwoK2}
 use Rattle.md_bar_tree.specs.Bars.{AreInside, IsInducedCycle, AreTwoEdges, Bars, IsBarOfKind, IsBar, HasBar}
-use Rattle.md_bar_tree.proofs.TwoPairs.{HaveValues, cycle_of, edges_of}
+use Rattle.md_bar_tree.proofs.TwoPairs.{HaveValues, not_both, cycle_of, edges_of}
 use Rattle.md_bar_tree.specs.Crossing.{IsOwn, AreCrossing, IsNameOf}
 
 module _ {g : PlainGraph} (is : IsGraph g) (class : Class) where
@@ -63,12 +63,8 @@ module _ {g : PlainGraph} (is : IsGraph g) (class : Class) where
   in_order true may p q r s h i pq rs pr = (record { kind = TwoK2; a = p; b = q; c = r; d = s }, record { bars = two_edges_bar class may; is = edges_of adj g.vertices p q r s h i (pq, rs, pr) })
 
   -- names of the two pairs differ
-  values_clash : (v a : Bool) → a ≡ v → a ≡ not v → ⊥
-  values_clash true a p q = clash p q
-  values_clash false a p q = clash q p
-
   firsts_differ : (v : Bool) (p q r s : ℕ) → HaveValues (adjacent g) v p q r s → p ≢ r
-  firsts_differ v p q r s h same = values_clash v (adjacent g r q) (subst (λ k. adjacent g k q ≡ v) same h.pairs.0) (adj.symmetric r q ∙ h.across.2)
+  firsts_differ v p q r s h same = not_both v (adjacent g r q) (subst (λ k. adjacent g k q ≡ v) same h.pairs.0) (adj.symmetric r q ∙ h.across.2)
 
   by_firsts : (v : Bool) → IsValue v → (p q r s : ℕ) → HaveValues (adjacent g) v p q r s → AreInside g.vertices p q r s → p < q → r < s → Barred
   by_firsts v may p q r s h i pq rs = elim (cases_order p r) [

@@ -1,9 +1,10 @@
 //! Writes the members of a set, word by word.
-ghost use Rattle.std.specs.Prelude.{◌≡◌, ◌+◌, ◌*◌, ◌%◌, ◌<◌, ◌≤◌, [], ◌++◌, length, IfSome, IfNone, OnOk};
+ghost use Rattle.std.specs.Prelude.{◌≡◌, ◌+◌, ◌*◌, ◌%◌, ◌<◌, ◌≤◌, [], ◌++◌, length, IfSome, IfNone, IfErr, OnOk};
 ghost use Rattle.std.specs.List.{All};
 ghost use Rattle.md_graph.specs.NameSet.{IsGreatest, ascending_from};
 ghost use Rattle.md_graph.specs.Words.{bits_between};
 ghost use Rattle.md_text.specs.Pieces.{piece_text, texts_at};
+ghost use Rattle.md_blocks.specs.Refusals.{RefusesFront};
 
 use crate::blocks::{bits_from, write_block};
 use crate::target::Target;
@@ -20,7 +21,7 @@ const PIECE_ROOM: usize = 8;
 ///
 /// # Errors
 ///
-/// Those of the target.
+/// Those of the target, where it refuses a front of what is to stand there.
 // Inlined, so that a chunk of the caller's own stays in registers.
 #[inline(always)]
 pub fn write_members<E, T: Target<E>, const W: usize>(
@@ -36,6 +37,9 @@ pub fn write_members<E, T: Target<E>, const W: usize>(
         ≡ (T.bytes target.old ++ chunk.old)
         ++ texts_at pieces.now (piece_text start) (ascending_from set.now from)) }
     ensures text { OnOk result (T.text target.new ≡ T.text target.old) }
+    ensures refused { IfErr result (λ reason. RefusesFront T.bytes T.text T.may_refuse target.old
+        ((T.bytes target.old ++ chunk.old)
+        ++ texts_at pieces.now (piece_text start) (ascending_from set.now from)) reason) }
 {
     let Some(last) = set.last() else {
         return Ok(());
@@ -54,7 +58,7 @@ pub fn write_members<E, T: Target<E>, const W: usize>(
 ///
 /// # Errors
 ///
-/// Those of the target.
+/// Those of the target, where it refuses what is gathered.
 #[inline(always)]
 pub fn put_two<E, T: Target<E>>(
     target: &mut T,
@@ -65,6 +69,8 @@ pub fn put_two<E, T: Target<E>>(
     ensures put { OnOk result (T.bytes target.new ++ chunk.new
         ≡ ((T.bytes target.old ++ chunk.old) ++ piece_text first) ++ piece_text second) }
     ensures text { OnOk result (T.text target.new ≡ T.text target.old) }
+    ensures refused { IfErr result (λ reason. RefusesFront T.bytes T.text T.may_refuse target.old
+        (T.bytes target.old ++ chunk.old) reason) }
 {
     make_room(2 * PIECE_ROOM, chunk, target)?;
     chunk.put_both(first, second);
@@ -75,13 +81,15 @@ pub fn put_two<E, T: Target<E>>(
 ///
 /// # Errors
 ///
-/// Those of the target.
+/// Those of the target, where it refuses what is gathered.
 #[inline(always)]
 pub fn make_room<E, T: Target<E>>(more: usize, chunk: &mut Chunk, target: &mut T) -> Result<(), E>
     requires { more ≤ CHUNK_SIZE }
     ensures room { OnOk result (length chunk.new + more ≤ CHUNK_SIZE) }
     ensures same { OnOk result (T.bytes target.new ++ chunk.new ≡ T.bytes target.old ++ chunk.old) }
     ensures text { OnOk result (T.text target.new ≡ T.text target.old) }
+    ensures refused { IfErr result (λ reason. RefusesFront T.bytes T.text T.may_refuse target.old
+        (T.bytes target.old ++ chunk.old) reason) }
 {
     if chunk.room() < more {
         target.take_chunk(chunk)?;

@@ -1,5 +1,5 @@
 -- The pairs of names that stand for the children of a prime node.
-use Rattle.std.proofs.Common.{◌≡◌, ◌≢◌, ℕ, ◌+◌, ◌<◌, ◌≤◌, Bool, true, cond, List, [], ◌∷◌, ◌++◌, length, get_or, drop, Option, Some, None, append_assoc, length-append, refl, sym, ◌∙◌, ap, subst, arith}
+use Rattle.std.proofs.Common.{◌≡◌, ◌≢◌, ℕ, ◌+◌, ◌<◌, ◌≤◌, Bool, true, cond, List, [], ◌∷◌, ◌++◌, length, get_or, Option, Some, None, append_assoc, length-append, refl, sym, ◌∙◌, ap, subst, arith}
 use Rattle.std.specs.Prelude.{AllPairs, IfSome, IfNone, MatchOption}
 use Rattle.std.proofs.lemmas.List.{append_cancel_left}
 use Rattle.md_text.specs.declared.piece.Piece.{Piece}
@@ -8,8 +8,8 @@ use Rattle.md_tree.specs.Held.{MayListIf}
 use Rattle.md_tree.specs.Spellings.{PairRules, ArePairRules, IsPairBeforeBy}
 use Rattle.md_tree.specs.TreeTexts.{pairs_text_by}
 use Rattle.md_tree.proofs.Pairs.{one_list}
-use Rattle.md_outline.specs.HeadPairs.{near_pairs, head_pairs, pairs_from, near_heads, SpellPositions}
-use Rattle.md_outline.proofs.HeadPairs.{AreHeadsPut, heads_begin, heads_more, heads_end, pairs_within, pairs_later, listed_in, in_listed}
+use Rattle.md_outline.specs.HeadPairs.{head_pairs}
+use Rattle.md_outline.proofs.HeadPairs.{AreHeadsPut, heads_end, pairs_within, pairs_later, listed_in, in_listed}
 
 pub if_some : {A : Type 0} {P Q : A → Type 0} (r : Option A) → ((x : A) → P x → Q x) → IfSome r P → IfSome r Q
 if_some (Some x) to h = to x h
@@ -82,49 +82,12 @@ module _ {P : Type 0} (r : PairRules P) (e : ℕ → ℕ → Bool) (list : List 
   abbrev whole : List ℕ
   whole = pairs_text_by r 59 (head_pairs r e list)
 
-  -- the pairs of the names before the position i stand before the rest of the text, but for those in the chunk
-  pub record AreHeadsFound (i : ℕ) (text rest chunk : List ℕ) (mark : ℕ) (pieces : List Piece) : Type 0 where
-    pub front : List ℕ
-    pub cut : text ≡ front ++ rest
-    pub put : AreHeadsPut r e list i [] (front ++ chunk) mark pieces
-
-  pub found_none : (text chunk : List ℕ) (pieces : List Piece) → chunk ≡ [] → SpellPositions pieces 0 list → AreHeadsFound 0 text text chunk 59 pieces
-  found_none text chunk pieces none places = record { front = []; cut = refl; put = subst (λ c. AreHeadsPut r e list 0 [] c 59 pieces) (sym none) (heads_begin r e list [] pieces places) }
-
-  -- the text goes on with what is behind the front, if it is that of the pairs
-  goes_on : (text front rest now more : List ℕ) → text ≡ front ++ rest → (front ++ now) ++ more ≡ whole → (tail : List ℕ) → text ≡ whole ++ tail → rest ≡ now ++ (more ++ tail)
-  goes_on text front rest now more cut all tail is =
-      append_cancel_left front rest (now ++ (more ++ tail)) (sym cut ∙ is ∙ ap (λ l. l ++ tail) (sym all) ∙ append_assoc (front ++ now) more tail ∙ append_assoc front now (more ++ tail))
-
-  module _ (i : ℕ) (below : i < length list) (text rest chunk : List ℕ) (mark : ℕ) (pieces : List Piece) (f : AreHeadsFound i text rest chunk mark pieces) (held gathered next_chunk : List ℕ) (next : ℕ) (kept : List Piece) (listed : List ℕ)
-      (nothing : held ≡ []) (same : kept ≡ pieces) (are : listed ≡ near_heads e (get_or list i 0) list)
-      (row_done : (d : ℕ → ℕ → Bool) (u j : ℕ) (ws : List ℕ) (more : List P) → SpellPositions pieces j ws → listed ≡ near_heads d u ws →
-      (gathered ++ next_chunk) ++ pairs_text_by r next more ≡ (held ++ chunk) ++ pairs_text_by r mark (near_pairs r d u i j ws ++ more)) where
-    row_put : AreHeadsPut r e list (i + 1) [] (f.front ++ (gathered ++ next_chunk)) next kept
-    row_put = heads_more r e list i below [] (f.front ++ chunk) mark pieces f.put (f.front ++ (gathered ++ next_chunk)) next kept listed same are
-        (λ d u j ws more places is.
-        append_assoc f.front (gathered ++ next_chunk) (pairs_text_by r next more)
-        ∙ ap (λ l. f.front ++ l) (row_done d u j ws more places is ∙ ap (λ l. (l ++ chunk) ++ pairs_text_by r mark (near_pairs r d u i j ws ++ more)) nothing)
-        ∙ sym (append_assoc f.front chunk (pairs_text_by r mark (near_pairs r d u i j ws ++ more))))
-
-    pub found_more : (tail : List ℕ) → rest ≡ gathered ++ tail → AreHeadsFound (i + 1) text tail next_chunk next kept
-    found_more tail is = record {
-      front = f.front ++ gathered;
-      cut = f.cut ∙ ap (λ l. f.front ++ l) is ∙ sym (append_assoc f.front gathered tail);
-      put = subst (λ l. AreHeadsPut r e list (i + 1) [] l next kept) (sym (append_assoc f.front gathered next_chunk)) row_put;
-    }
-
-    pub not_found : ((tail : List ℕ) → rest ≢ gathered ++ tail) → (tail : List ℕ) → text ≢ whole ++ tail
-    not_found other tail is =
-        let more = pairs_text_by r next (pairs_from r e list (i + 1) (drop (i + 1) list)) in
-        other (next_chunk ++ (more ++ tail)) (goes_on text f.front rest (gathered ++ next_chunk) more f.cut row_put.text tail is ∙ append_assoc gathered next_chunk (more ++ tail))
-
-  module _ (i : ℕ) (over : length list ≤ i) (text rest chunk : List ℕ) (mark : ℕ) (pieces : List Piece) (f : AreHeadsFound i text rest chunk mark pieces) where
-    all_put : f.front ++ chunk ≡ whole
-    all_put = heads_end r e list i [] (f.front ++ chunk) mark pieces over f.put
+  module _ (i : ℕ) (over : length list ≤ i) (text front rest chunk : List ℕ) (mark : ℕ) (pieces : List Piece) (cut : front ++ rest ≡ text) (put : AreHeadsPut r e list i [] (front ++ chunk) mark pieces) where
+    all_put : front ++ chunk ≡ whole
+    all_put = heads_end r e list i [] (front ++ chunk) mark pieces over put
 
     pub found_all : (tail : List ℕ) → rest ≡ chunk ++ tail → text ≡ whole ++ tail
-    found_all tail is = f.cut ∙ ap (λ l. f.front ++ l) is ∙ sym (append_assoc f.front chunk tail) ∙ ap (λ l. l ++ tail) all_put
+    found_all tail is = sym cut ∙ ap (λ l. front ++ l) is ∙ sym (append_assoc front chunk tail) ∙ ap (λ l. l ++ tail) all_put
 
     pub found_other : ((tail : List ℕ) → rest ≢ chunk ++ tail) → (tail : List ℕ) → text ≢ whole ++ tail
-    found_other other tail is = other tail (append_cancel_left f.front rest (chunk ++ tail) (sym f.cut ∙ is ∙ ap (λ l. l ++ tail) (sym all_put) ∙ append_assoc f.front chunk tail))
+    found_other other tail is = other tail (append_cancel_left front rest (chunk ++ tail) (cut ∙ is ∙ ap (λ l. l ++ tail) (sym all_put) ∙ append_assoc front chunk tail))

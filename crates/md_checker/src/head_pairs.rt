@@ -1,5 +1,4 @@
-//! Compares a text with the pairs of a prime node that a graph demands. Of these no more are kept
-//! than those of one name.
+//! Compares a text with the pairs of a prime node that a graph demands. No list of these is made.
 ghost use Rattle.std.specs.Prelude.{◌≡◌, ◌≢◌, ◌≤◌, ℕ, List, true, [], ◌∷◌, ◌++◌, length, IfOk, IfSome, IfNone, MatchOption};
 ghost use Rattle.md_graph.specs.declared.TheConstants.{NAMES, WORDS};
 ghost use Rattle.md_tree.specs.TreeTexts.{pairs_text_by};
@@ -7,6 +6,7 @@ ghost use Rattle.md_outline.specs.HeadPairs.{head_pairs, SpellPositions};
 ghost use Rattle.md_checker.specs.TextViews.{StandForChildren};
 
 use crate::text_graph::TextGraph;
+use md_blocks::{Compared, Differs};
 use md_graph::{Memory, Set};
 use md_outline::{PairSpace, put_row};
 use md_text::skip_byte;
@@ -19,7 +19,6 @@ pub(crate) fn past_pairs<'a, K: Lettered, P: Paired, G: TextGraph<K, P, W>, cons
     graph: &G,
     heads: &[u32],
     text: &'a [u8],
-    gathered: &mut Vec<u8>,
     space: &mut PairSpace,
 ) -> Result<Option<&'a [u8]>, Memory>
     requires limit { W ≤ WORDS }
@@ -35,7 +34,7 @@ pub(crate) fn past_pairs<'a, K: Lettered, P: Paired, G: TextGraph<K, P, W>, cons
         (head_pairs P.rules (G.view graph.now).lists heads.now) ++ 41 ∷ tail)) }
 {
     space.places.spell(heads)?;
-    let Some(rest) = past_heads::<K, P, G, W>(graph, heads, text, gathered, space)? else {
+    let Some(rest) = past_heads::<K, P, G, W>(graph, heads, text, space) else {
         return Ok(None);
     };
     if rest.len() == text.len() {
@@ -55,40 +54,36 @@ pub(crate) fn past_bracket(text: &[u8]) -> Option<&[u8]>
     }
 }
 
-// What stands behind the pairs of the heads; none if the text doesn't begin with them. They are
-// gathered, and compared when many have come.
+// What stands behind the pairs of the heads; none if the text doesn't begin with them.
 fn past_heads<'a, K: Lettered, P: Paired, G: TextGraph<K, P, W>, const W: usize>(
     graph: &G,
     heads: &[u32],
     text: &'a [u8],
-    gathered: &mut Vec<u8>,
     space: &mut PairSpace,
-) -> Result<Option<&'a [u8]>, Memory>
+) -> Option<&'a [u8]>
     requires limit { W ≤ WORDS }
     requires heads { StandForChildren (G.view graph.now).vertices true heads.now }
     requires few { length heads.now ≤ NAMES }
     requires places { SpellPositions space.old.places 0 heads.now }
-    ensures { IfOk result (λ o. MatchOption o
+    ensures { MatchOption result
         ((tail : List ℕ) → text.now ≢ pairs_text_by P.rules 59
         (head_pairs P.rules (G.view graph.now).lists heads.now) ++ tail)
         (λ tail. text.now ≡ pairs_text_by P.rules 59
-        (head_pairs P.rules (G.view graph.now).lists heads.now) ++ tail.now)) }
+        (head_pairs P.rules (G.view graph.now).lists heads.now) ++ tail.now) }
 {
     let _vertices = graph.vertices();
     space.chunk.clear();
     space.mark = b';';
     let all = Set::from_list(heads);
-    gathered.clear();
-    let mut rest = text;
+    let mut compared = Compared::new(text);
     for (position, head) in heads.iter().enumerate() {
         let (row, from) = graph.ahead(*head);
         let near = row.and(&all);
-        put_row::<P, Memory, Vec<u8>, W>(gathered, &near, from, position as u32, space)?;
-        let Some(tail) = rest.strip_prefix(gathered.as_slice()) else {
-            return Ok(None);
-        };
-        gathered.clear();
-        rest = tail;
+        let low = position as u32;
+        match put_row::<P, Differs, Compared<'_>, W>(&mut compared, &near, from, low, space) {
+            Ok(()) => {}
+            Err(Differs) => return None,
+        }
     }
-    Ok(space.chunk.strip_from(rest))
+    space.chunk.strip_from(&text[compared.same..])
 }

@@ -22,9 +22,8 @@ use md_tree::{Lettered, Opened, Paired, ascends, split_letter};
 use std::alloc::Global;
 
 // What is kept of a text that is read: of each finished tree its least name and the kind of its
-// root, if that is a node; the nodes that are open; all names; so that the names outside a node are
-// few, the vertices that are not read yet and the least names of the finished trees; and room for
-// the pairs of a node.
+// root, if that is a node; the nodes that are open; all names; and, so that the names outside a node
+// are few, the vertices that are not read yet and the least names of the finished trees.
 #[derive(Drop)]
 struct Walk<K: Drop, const W: usize> {
     least: Vec<u32>,
@@ -32,7 +31,6 @@ struct Walk<K: Drop, const W: usize> {
     opens: Vec<Opened<K>>,
     seen: Set<W>,
     live: Set<W>,
-    gathered: Vec<u8>,
     space: PairSpace,
 }
 
@@ -59,7 +57,6 @@ pub fn is_text_by_rows<K: Lettered, P: Paired, G: TextGraph<K, P, W>, const W: u
         opens: Vec::new(alloc),
         seen: Set::none(),
         live: vertices.copy(),
-        gathered: Vec::new(alloc),
         space: PairSpace::new(alloc),
     };
     let mut rest = text;
@@ -240,16 +237,8 @@ fn end_node<'a, K: Lettered, P: Paired, G: TextGraph<K, P, W>, const W: usize>(
         return Ok(None);
     }
     let least = least_name(inner.kind, heads);
-    let Some(tail) = past_end::<K, P, G, W>(
-        alloc,
-        graph,
-        text,
-        inner.kind,
-        heads,
-        &mut walk.live,
-        &mut walk.gathered,
-        &mut walk.space,
-    )?
+    let (live, space) = (&mut walk.live, &mut walk.space);
+    let Some(tail) = past_end::<K, P, G, W>(alloc, graph, text, inner.kind, heads, live, space)?
     else {
         return Ok(None);
     };
@@ -291,7 +280,6 @@ fn past_end<'a, K: Lettered, P: Paired, G: TextGraph<K, P, W>, const W: usize>(
     kind: K,
     heads: &[u32],
     live: &mut Set<W>,
-    gathered: &mut Vec<u8>,
     space: &mut PairSpace,
 ) -> Result<Option<&'a [u8]>, Memory>
     requires heads { StandForChildren (G.view graph.now).vertices (K.rules.sorts kind) heads.now }
@@ -310,7 +298,7 @@ fn past_end<'a, K: Lettered, P: Paired, G: TextGraph<K, P, W>, const W: usize>(
 {
     live.within_limit();
     let _vertices = graph.vertices();
-    let Some(tail) = past_listed::<K, P, G, W>(graph, text, kind, heads, gathered, space)? else {
+    let Some(tail) = past_listed::<K, P, G, W>(graph, text, kind, heads, space)? else {
         return Ok(None);
     };
     if !is_fit_node::<K, P, G, W>(alloc, graph, kind, heads, live)? {
@@ -325,7 +313,6 @@ fn past_listed<'a, K: Lettered, P: Paired, G: TextGraph<K, P, W>, const W: usize
     text: &'a [u8],
     kind: K,
     heads: &[u32],
-    gathered: &mut Vec<u8>,
     space: &mut PairSpace,
 ) -> Result<Option<&'a [u8]>, Memory>
     requires limit { W ≤ WORDS }
@@ -346,7 +333,7 @@ fn past_listed<'a, K: Lettered, P: Paired, G: TextGraph<K, P, W>, const W: usize
     if !kind.lists() {
         return Ok(past_bracket(text));
     }
-    past_pairs::<K, P, G, W>(graph, heads, text, gathered, space)
+    past_pairs::<K, P, G, W>(graph, heads, text, space)
 }
 
 // Whether a node of the kind may have children whose roots are of these kinds.

@@ -7,7 +7,7 @@ use Rattle.md_graph.specs.Rows.{row_of}
 use Rattle.md_graph.specs.Sets.{NameSet, Has}
 use Rattle.md_digraph.specs.PlainDigraph.{PlainDigraph, IsDigraph, has_arc_to, successors, predecessors}
 use Rattle.md_digraph.specs.ArcColours.{between}
-use Rattle.md_digraph.proofs.DigraphLemmas.{contains-successors, contains-predecessors}
+use Rattle.md_digraph.proofs.DigraphLemmas.{in_heads, in_tails}
 use Rattle.md_checker.proofs.FitRows.{HaveRows, more_row}
 use Rattle.md_dtree.specs.declared.DPair.{DPair}
 use Rattle.md_dtree.specs.DirectedFits.{lists_arc}
@@ -18,8 +18,8 @@ use Rattle.md_dcheck.specs.DirectedFitTests.{told_by, AreDirectedHeads}
 -- its rows tell them
 pub rows_tell : {g : PlainDigraph} → IsDigraph g → (v : ℕ) (out into : NameSet) → out ≡ successors g v → into ≡ predecessors g v → (y : ℕ) → between (has_arc_to g) v y ≡ (contains out y, contains into y)
 rows_tell digraph v out into is_out is_into y =
-    let there = sym (ap (λ s. contains s y) is_out ∙ contains-successors digraph v y) in
-    let back = sym (ap (λ s. contains s y) is_into ∙ contains-predecessors digraph v y) in
+    let there = sym (in_heads digraph v out is_out y) in
+    let back = sym (in_tails digraph v into is_into y) in
     λ n. (there n, back n)
 
 -- they agree with two rows where its own rows do
@@ -36,7 +36,7 @@ both_agree digraph v among out into succ pred is_succ is_pred = (
 
 pub forth_agrees : {g : PlainDigraph} → IsDigraph g → (v : ℕ) (among out into succ : NameSet) → succ ≡ successors g v → ((y : ℕ) → Has among y → between (has_arc_to g) v y ≡ (contains out y, contains into y)) →
     (y : ℕ) → Has among y → contains succ y ≡ contains out y
-forth_agrees digraph v among out into succ is_succ all y h = ap (λ s. contains s y) is_succ ∙ contains-successors digraph v y ∙ ap (λ c. c.0) (all y h)
+forth_agrees digraph v among out into succ is_succ all y h = in_heads digraph v succ is_succ y ∙ ap (λ c. c.0) (all y h)
 
 -- two vertices have the same arcs where the arcs of the one are those that the rows of the other tell
 pub same_arcs : {g : PlainDigraph} → IsDigraph g → (v w : ℕ) (among out into : NameSet) → out ≡ successors g v → into ≡ predecessors g v →

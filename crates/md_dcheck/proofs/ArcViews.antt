@@ -9,7 +9,7 @@ use Rattle.md_digraph.specs.declared.TheConstants.{DIRECTED_NAMES}
 use Rattle.md_digraph.specs.PlainDigraph.{PlainDigraph, IsDigraph, has_arc_to, successors}
 use Rattle.md_digraph.specs.ArcColours.{ArcColour, between, swapped, no_arc, both_arcs}
 use Rattle.md_digraph.proofs.ArcTurns.{arcs_turn, arcs_told}
-use Rattle.md_digraph.proofs.DigraphLemmas.{contains-successors}
+use Rattle.md_digraph.proofs.DigraphLemmas.{in_heads}
 use Rattle.md_graph.proofs.SetLemmas.{ascending_or_not}
 use Rattle.md_text.proofs.Lists.{to_contains}
 use Rattle.md_tree.specs.Held.{MayListIf}
@@ -71,7 +71,7 @@ as_put k kind there back told is plain both = subst (λ (w : DKind). (told ≡ t
 -- the row of a vertex
 pub arcs_ahead : {g : PlainDigraph} → IsDigraph g → (v : ℕ) (row : NameSet) → row ≡ successors g v → (y : ℕ) → (has_arc_to g v y ≡ true) ↔ (Has row y × (0 ≤ y))
 arcs_ahead {g} digraph v row is y =
-    let told : contains row y ≡ has_arc_to g v y = ap (λ s. contains s y) is ∙ contains-successors digraph v y in
+    let told : contains row y ≡ has_arc_to g v y = in_heads digraph v row is y in
     ((λ t. (told ∙ t, omega arith)), λ t. sym told ∙ t.0)
 
 -- the pairs that are listed have exactly the arcs

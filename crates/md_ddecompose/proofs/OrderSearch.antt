@@ -7,7 +7,7 @@ use Rattle.md_graph.proofs.SetLemmas.{clash, same_name, of_only, of_remove, remo
 use Rattle.md_modules.specs.Kinds.{IsSplit}
 use Rattle.md_digraph.specs.PlainDigraph.{PlainDigraph, IsDigraph, has_arc_to, successors, predecessors}
 use Rattle.md_digraph.specs.ArcColours.{between, swapped}
-use Rattle.md_digraph.proofs.DigraphLemmas.{contains-successors, contains-predecessors}
+use Rattle.md_digraph.proofs.DigraphLemmas.{in_heads, in_tails}
 use Rattle.md_dtree.specs.DirectedTrees.{arc_forth, SplitsWith}
 
 -- each part that the order begins with (last is false) or ends with (last is true) and that holds v has what isn't left, and what is to be looked at
@@ -100,16 +100,10 @@ module _ (first second left left1 left2 todo todo1 todo2 : NameSet) (is_left1 : 
   ]
 
 module _ {g : PlainDigraph} (digraph : IsDigraph g) (w : ℕ) (out into left left' : NameSet) (is_out : out ≡ successors g w) (is_into : into ≡ predecessors g w) where
-  in_out : (y : ℕ) → contains out y ≡ has_arc_to g w y
-  in_out y = ap (λ t. contains t y) is_out ∙ contains-successors digraph w y
-
-  in_into : (y : ℕ) → contains into y ≡ has_arc_to g y w
-  in_into y = ap (λ t. contains t y) is_into ∙ contains-predecessors digraph w y
-
   pub kept_forth : (last : Bool) → last ≡ false → ((y : ℕ) → Has left y → Has out y → Lacks into y → Has left' y) → (y : ℕ) → Has left y → between (has_arc_to g) w y ≡ (not last, last) → Has left' y
-  kept_forth false is kept y h same = kept y h (in_out y ∙ ap (λ c. c.0) same) (in_into y ∙ ap (λ c. c.1) same)
+  kept_forth false is kept y h same = kept y h (in_heads digraph w out is_out y ∙ ap (λ c. c.0) same) (in_tails digraph w into is_into y ∙ ap (λ c. c.1) same)
   kept_forth true is kept y h same = absurd (cc)
 
   pub kept_back : (last : Bool) → last ≡ true → ((y : ℕ) → Has left y → Has into y → Lacks out y → Has left' y) → (y : ℕ) → Has left y → between (has_arc_to g) w y ≡ (not last, last) → Has left' y
   kept_back false is kept y h same = absurd (cc)
-  kept_back true is kept y h same = kept y h (in_into y ∙ ap (λ c. c.1) same) (in_out y ∙ ap (λ c. c.0) same)
+  kept_back true is kept y h same = kept y h (in_tails digraph w into is_into y ∙ ap (λ c. c.1) same) (in_heads digraph w out is_out y ∙ ap (λ c. c.0) same)

@@ -13,7 +13,7 @@ use Rattle.md_graph.specs.NameSet.{AllBelow, ascending}
 use Rattle.md_graph.specs.Sets.{NameSet, Has}
 use Rattle.md_graph.proofs.SetLemmas.{same_turned, same_members, meet_has, of_meet, retain_has, of_retain}
 use Rattle.md_graph.proofs.Search.{len_within}
-use Rattle.md_graph.proofs.NameLemmas.{ascending_items, ascending_order, ascending_appears, length-ascending, few_below}
+use Rattle.md_graph.proofs.NameLemmas.{ascending_items, ascending_order, ascending_appears, few_names}
 use Rattle.md_text.proofs.Lists.{to_contains, in_right}
 use Rattle.md_digraph.specs.declared.TheConstants.{DIRECTED_NAMES}
 use Rattle.md_digraph.specs.PlainDigraph.{PlainDigraph, IsDigraph, has_arc_to, successors, predecessors}
@@ -23,13 +23,6 @@ use Rattle.md_ddecompose.specs.declared.order_parts.Ranked.{Ranked}
 use Rattle.md_ddecompose.specs.Ranks.{HasItsLag, name_of, AreRanked}
 
 -- ---- counts
-
--- a set of names below a limit has no more members
-pub few_names : (s : NameSet) (n : ℕ) → AllBelow s n → len s ≤ n
-few_names s n below =
-    let few = few_below s 0 n in
-    let same = length-ascending s n below in
-    omega arith
 
 module _ {g : PlainDigraph} (digraph : IsDigraph g) (s : NameSet) (v : ℕ) where
   pub from_counted : (row shared : NameSet) (count : ℕ) → row ≡ successors g v → shared ≡ intersection row s → count ≡ len shared → count ≡ arcs_from (has_arc_to g) s v

@@ -13,7 +13,7 @@ use Rattle.md_modules.proofs.Growth.{TakesUnless}
 use Rattle.md_digraph.specs.PlainDigraph.{PlainDigraph, IsDigraph, has_arc_to, successors, predecessors}
 use Rattle.md_digraph.specs.ArcColours.{ArcColour, between, swapped}
 use Rattle.md_digraph.specs.ArcsSeen.{told_apart, with_other_arcs}
-use Rattle.md_digraph.proofs.DigraphLemmas.{contains-successors, contains-predecessors}
+use Rattle.md_digraph.proofs.DigraphLemmas.{contains-successors, contains-predecessors, in_heads, in_tails}
 
 -- ---- arcs are colours
 
@@ -149,7 +149,7 @@ module _ {g : PlainDigraph} (digraph : IsDigraph g) where
   others_out w b among out p is_out seen test = (
     λ t.
         let found : Differs out b among = test.0 t in
-        (found.0, found.1, λ same. found.2 (ap (λ s. contains s found.0) is_out ∙ contains-successors digraph w found.0 ∙ ap (λ c. c.0) same)),
+        (found.0, found.1, λ same. found.2 (in_heads digraph w out is_out found.0 ∙ ap (λ c. c.0) same)),
     λ _. seen,
   )
 
@@ -157,18 +157,12 @@ module _ {g : PlainDigraph} (digraph : IsDigraph g) where
   others_in w b among out into p q is_out is_into unseen test_out test_in = (
     λ t.
         let found : Differs into b among = test_in.0 t in
-        (found.0, found.1, λ same. found.2 (in_bit found.0 ∙ ap (λ c. c.1) same)),
+        (found.0, found.1, λ same. found.2 (in_tails digraph w into is_into found.0 ∙ ap (λ c. c.1) same)),
     λ some. true_from_ne_false _ (λ none.
         some.2 (same_pair _ _ _ _
-        (sym (out_bit some.0) ∙ told (contains out some.0) (λ differ. clash (test_out.1 (some.0, some.1, differ)) unseen))
-        (sym (in_bit some.0) ∙ told (contains into some.0) (λ differ. clash (test_in.1 (some.0, some.1, differ)) none)))),
+        (sym (in_heads digraph w out is_out some.0) ∙ told (contains out some.0) (λ differ. clash (test_out.1 (some.0, some.1, differ)) unseen))
+        (sym (in_tails digraph w into is_into some.0) ∙ told (contains into some.0) (λ differ. clash (test_in.1 (some.0, some.1, differ)) none)))),
   ) where
-    out_bit : (t : ℕ) → contains out t ≡ has_arc_to g w t
-    out_bit t = ap (λ s. contains s t) is_out ∙ contains-successors digraph w t
-
-    in_bit : (t : ℕ) → contains into t ≡ has_arc_to g t w
-    in_bit t = ap (λ s. contains s t) is_into ∙ contains-predecessors digraph w t
-
     told : (a : Bool) → (a ≢ b → ⊥) → a ≡ b
     told a none = elim (decide_test a b) [ inl same ↦ same | inr differ ↦ absurd (none differ) ]
 

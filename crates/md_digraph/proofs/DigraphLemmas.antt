@@ -43,6 +43,13 @@ contains-predecessors {g} is v u =
       | inr f ↦ grind (arith)
     ]
 
+-- the rows of a vertex tell its arcs
+pub in_heads : {g : PlainDigraph} → IsDigraph g → (v : ℕ) (out : NameSet) → out ≡ successors g v → (u : ℕ) → set.contains out u ≡ has_arc_to g v u
+in_heads digraph v out is u = ap (λ s. set.contains s u) is ∙ contains-successors digraph v u
+
+pub in_tails : {g : PlainDigraph} → IsDigraph g → (v : ℕ) (into : NameSet) → into ≡ predecessors g v → (u : ℕ) → set.contains into u ≡ has_arc_to g u v
+in_tails digraph v into is u = ap (λ s. set.contains s u) is ∙ contains-predecessors digraph v u
+
 -- two directed graphs with the same vertices and the same arcs are equal
 pub same_digraph : {g h : PlainDigraph} → g.vertices ≡ h.vertices → ((u v : ℕ) → has_arc_to g u v ≡ has_arc_to h u v) → g ≡ h
 unfolding has_arc_to

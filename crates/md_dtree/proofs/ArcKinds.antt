@@ -1,5 +1,5 @@
 -- The kinds of the nodes of directed graphs' trees keep the laws of kinds.
-use Rattle.std.proofs.Common.{◌≡◌, ◌≢◌, ℕ, ◌<◌, ◌≤◌, Bool, true, List, [], refl, sym, ◌∙◌, ap, subst, inl, inr, true≢false, rules, arith}
+use Rattle.std.proofs.Common.{◌≡◌, ◌≢◌, ℕ, ◌≤◌, Bool, true, List, [], refl, sym, ◌∙◌, ap, subst, inl, inr, true≢false, rules, arith}
 use Rattle.std.specs.FinSet.{difference}
 use Rattle.md_graph.specs.Sets.{NameSet, Has, Within, HasSome, HasTwo}
 use Rattle.md_modules.specs.Modules.{IsMaximalStrong}
@@ -16,6 +16,7 @@ use Rattle.md_tree.specs.StrongTrees.{IsBefore}
 use Rattle.md_tree.specs.NodeKinds.{IsLeft, AreKinds}
 use Rattle.md_tree.specs.Spellings.{ArePairRules, IsSpelling}
 use Rattle.md_tree.proofs.Spelled.{is_spelling}
+use Rattle.md_tree.proofs.GraphKinds.{not_both_before}
 use Rattle.md_tree.proofs.Nodes.{position_below}
 use Rattle.md_tree.proofs.Pairs.{some_list, one_list}
 use Rattle.md_dtree.specs.declared.DKind.{DKind}
@@ -185,12 +186,6 @@ module _ (arc : ℕ → ℕ → Bool) where
   stands_fewer Series a b c before w = before_fewer a b c before w
   stands_fewer Order a b c before w = λ x y hx hy. before x y hx (w y hy)
   stands_fewer Prime a b c before w = before_fewer a b c before w
-
-  not_both_before : (a b : NameSet) → IsBefore a b → IsBefore b a → ⊥
-  not_both_before a b p q =
-      let l : p.0 < q.0 = p.2 q.0 q.1 in
-      let m : q.0 < p.0 = q.2 p.0 p.1 in
-      omega arith
 
   not_both_stand : (k : DKind) (a b : NameSet) → HasSome a → HasSome b → StandsBefore arc k a b → StandsBefore arc k b a → ⊥
   not_both_stand Parallel a b sa sb p q = not_both_before a b p q

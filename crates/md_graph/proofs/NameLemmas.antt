@@ -312,6 +312,10 @@ few_below s low (suc n) =
       | inr f ↦ rw (f, length-append (ascending_between s low n) []) (omega arith)
     ]
 
+-- a set of names below a limit has no more members
+pub few_names : (s : NameSet) (limit : ℕ) → AllBelow s limit → set.len s ≤ limit
+few_names s limit below = subst (λ n. n ≤ limit) (length-ascending s limit below) (few_below s 0 limit)
+
 set_of_list : (s : NameSet) (n : ℕ) → set.from_list (ascending_between s 0 n) ≡ under_bound s n
 unfolding ascending_between
 set_of_list s zero = sym (under_none s)

@@ -225,21 +225,24 @@ module _ {P : Type 0} (r : PairRules P) (e : ℕ → ℕ → Bool) (list : List 
   pub heads_end : (i : ℕ) (before now : List ℕ) (mark : ℕ) (pieces : List Piece) → length list ≤ i → AreHeadsPut i before now mark pieces → now ≡ before ++ pairs_text_by r 59 (head_pairs r e list)
   heads_end i before now mark pieces over p = sym (append-nil now) ∙ ap (λ l. now ++ pairs_text_by r mark (pairs_from r e list i l)) (sym (drop_all i list over)) ∙ p.text
 
+  -- what is to come behind: the pairs of the name at the position i, and those of the names behind it
+  pub heads_left : (i : ℕ) → i < length list → (before now : List ℕ) (mark : ℕ) (pieces : List Piece) → AreHeadsPut i before now mark pieces →
+      now ++ pairs_text_by r mark (near_pairs r e (get_or list i 0) i 0 list ++ pairs_from r e list (i + 1) (drop (i + 1) list)) ≡ before ++ pairs_text_by r 59 (head_pairs r e list)
+  heads_left i below before now mark pieces p =
+      let v = get_or list i 0 in
+      let one : i + 1 ≡ suc i = omega arith in
+      let cut : drop i list ≡ v ∷ drop (i + 1) list = drop_more list i 0 below in
+      ap (λ n. now ++ pairs_text_by r mark (near_pairs r e v i 0 list ++ pairs_from r e list n (drop (i + 1) list))) one
+      ∙ ap (λ l. now ++ pairs_text_by r mark (pairs_from r e list i l)) (sym cut) ∙ p.text
+
   pub heads_more : (i : ℕ) → i < length list → (before now : List ℕ) (mark : ℕ) (pieces : List Piece) → AreHeadsPut i before now mark pieces → (far : List ℕ) (next : ℕ) (kept : List Piece) (listed : List ℕ) → kept ≡ pieces →
       listed ≡ near_heads e (get_or list i 0) list →
       ((f : ℕ → ℕ → Bool) (u j : ℕ) (ws : List ℕ) (more : List P) → SpellPositions pieces j ws → listed ≡ near_heads f u ws → far ++ pairs_text_by r next more ≡ now ++ pairs_text_by r mark (near_pairs r f u i j ws ++ more)) →
       AreHeadsPut (i + 1) before far next kept
-  heads_more i below before now mark pieces p far next kept listed same are row_done =
-      let v = get_or list i 0 in
-      let one : i + 1 ≡ suc i = omega arith in
-      let cut : drop i list ≡ v ∷ drop (i + 1) list = drop_more list i 0 below in
-      record {
-        text =
-            row_done e v 0 list (pairs_from r e list (i + 1) (drop (i + 1) list)) p.places are
-            ∙ ap (λ n. now ++ pairs_text_by r mark (near_pairs r e v i 0 list ++ pairs_from r e list n (drop (i + 1) list))) one
-            ∙ ap (λ l. now ++ pairs_text_by r mark (pairs_from r e list i l)) (sym cut) ∙ p.text;
-        places = subst (λ l. SpellPositions l 0 list) (sym same) p.places;
-      }
+  heads_more i below before now mark pieces p far next kept listed same are row_done = record {
+    text = row_done e (get_or list i 0) 0 list (pairs_from r e list (i + 1) (drop (i + 1) list)) p.places are ∙ heads_left i below before now mark pieces p;
+    places = subst (λ l. SpellPositions l 0 list) (sym same) p.places;
+  }
 
 -- ascending names below a limit are as few as names below it
 rises_few : (low n : ℕ) (ws : List ℕ) → low ≤ n → Rises low n ws → low + length ws ≤ n

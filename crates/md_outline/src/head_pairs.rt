@@ -1,5 +1,5 @@
 //! Writes the pairs of a prime node, read off the rows of a graph. No list of pairs is made.
-ghost use Rattle.std.specs.Prelude.{◌≡◌, ◌+◌, ◌*◌, ◌<◌, ◌≤◌, ◌^◌, ℕ, Bool, List, [], ◌∷◌, ◌++◌, length, get_or, OnOk, IsTrue};
+ghost use Rattle.std.specs.Prelude.{◌≡◌, ◌+◌, ◌*◌, ◌<◌, ◌≤◌, ◌^◌, ℕ, Bool, List, [], ◌∷◌, ◌++◌, length, get_or, IfErr, OnOk, IsTrue};
 ghost use Rattle.std.specs.List.{All};
 ghost use Rattle.std.specs.FinSet as set;
 ghost use Rattle.md_graph.specs.NameSet.{ascending_from};
@@ -9,6 +9,7 @@ ghost use Rattle.md_text.specs.Pieces.{piece_text, text_at};
 ghost use Rattle.md_tree.specs.declared.Pair.{Pair};
 ghost use Rattle.md_tree.specs.Spellings.{graph_pairs};
 ghost use Rattle.md_tree.specs.TreeTexts.{pairs_text, pairs_text_by};
+ghost use Rattle.md_blocks.specs.Refusals.{RefusesFront};
 ghost use Rattle.md_outline.specs.HeadPairs.{near_heads, near_pairs, head_pairs, SpellPositions};
 ghost use Rattle.md_outline.specs.NodeRows.{is_edge_up, AreHeadsOf};
 
@@ -137,7 +138,7 @@ fn put_head<const W: usize>(
 ///
 /// # Errors
 ///
-/// Those of the target.
+/// Those of the target, where it refuses a front of what is to stand there.
 // Never inlined, so that its loops have the registers to themselves.
 #[inline(never)]
 pub fn put_row<P: Paired, E, T: Target<E>, const W: usize>(
@@ -155,6 +156,12 @@ pub fn put_row<P: Paired, E, T: Target<E>, const W: usize>(
         ≡ (T.bytes target.old ++ space.old.chunk)
         ++ pairs_text_by P.rules space.old.mark (near_pairs P.rules e v low j ws ++ more)) }
     ensures text { OnOk result (T.text target.new ≡ T.text target.old) }
+    ensures refused { IfErr result (λ reason. (e : ℕ → ℕ → Bool) (v j : ℕ) (ws : List ℕ)
+        (more : List P)
+        → SpellPositions space.old.places j ws → ascending_from near.now from ≡ near_heads e v ws
+        → RefusesFront T.bytes T.text T.may_refuse target.old
+        ((T.bytes target.old ++ space.old.chunk)
+        ++ pairs_text_by P.rules space.old.mark (near_pairs P.rules e v low j ws ++ more)) reason) }
     ensures places { space.new.places ≡ space.old.places }
 {
     let Some(first) = near.first_from(from) else {

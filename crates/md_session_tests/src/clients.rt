@@ -1,6 +1,6 @@
 //! What a program over the crates of sessions can promise, proved from the contracts of their public
 //! calls alone.
-ghost use Rattle.std.specs.Prelude.{◌≡◌, ◌↔◌, ◌*◌, None, true, false, IfOk, IsTrue};
+ghost use Rattle.std.specs.Prelude.{◌≡◌, ◌≤◌, ◌↔◌, ◌+◌, ◌*◌, None, true, false, IfOk, IsTrue};
 ghost use Rattle.md_graph.specs.PlainGraph.{adjacent};
 ghost use Rattle.md_tree.specs.Plain.{plain_option};
 ghost use Rattle.md_tree.specs.StrongTrees.{IsTree};
@@ -8,6 +8,7 @@ ghost use Rattle.md_script.specs.Edit.{HasNamesBelow, reason_of, after};
 ghost use Rattle.md_report.specs.Cographs.{IsCograph};
 ghost use Rattle.md_report.specs.Classes.{IsAllowedIn};
 ghost use Rattle.md_report.specs.Sessions.{state_after};
+ghost use Rattle.md_cograph.specs.EditCosts.{edit_cost};
 
 use md_bar_tree::Class;
 use md_class::{ClassOpenedOf, ClassSessionOf};
@@ -45,8 +46,8 @@ pub fn can_begin_in<const W: usize>(
 }
 
 /// Whether an edit was applied to a session on cographs: exactly where no reason speaks against it
-/// and the graph after it is a cograph. Else the graph stays. Condition: the names in the edit are
-/// below `64 * W`.
+/// and the graph after it is a cograph. Else the graph stays. It takes no more steps than the edit
+/// may cost. Condition: the names in the edit are below `64 * W`.
 pub fn try_edit<L: Ledger, const W: usize>(
     session: &mut CographSessionOf<W>,
     edit: &Edit,
@@ -57,6 +58,7 @@ pub fn try_edit<L: Ledger, const W: usize>(
         × IsCograph (after session.old edit.now)) }
     ensures changed { result ≡ true → session.new ≡ after session.old edit.now }
     ensures stays { result ≡ false → session.new ≡ session.old }
+    ensures bound { steps.new ≤ steps.old + edit_cost session.old edit.now }
 {
     match session.apply(edit, steps) {
         Answer::Applied => true,

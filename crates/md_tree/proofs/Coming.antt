@@ -4,12 +4,11 @@ use Rattle.std.proofs.Math.Seq.{take-append_seam, drop-append_seam}
 use Rattle.std.specs.Prelude.{◌↔◌}
 use Rattle.std.specs.FinSet.{empty, len}
 use Rattle.md_graph.specs.declared.TheConstants.{NAMES}
-use Rattle.md_graph.specs.NameSet.{AllBelow}
 use Rattle.md_graph.proofs.Limits.{NAMES-lt}
 use Rattle.md_graph.specs.Sets.{NameSet, Has, Lacks}
 use Rattle.md_graph.proofs.SetLemmas.{clash, empty_lacks, only_has, union_left, union_right, of_union}
 use Rattle.md_graph.proofs.Search.{len_proper, len_within}
-use Rattle.md_graph.proofs.NameLemmas.{length-ascending, few_below}
+use Rattle.md_graph.proofs.NameLemmas.{few_names}
 use Rattle.md_tree.specs.declared.builder.Opened.{Opened}
 use Rattle.md_tree.specs.declared.builder.Held.{Held}
 use Rattle.md_tree.specs.declared.builder.Step.{Step}
@@ -344,9 +343,6 @@ module _ {K P : Type 0} {sp : Spelling K P} (law : IsSpelling sp) where
       len_proper (names t) (names (closed o t f.others f.pairs)) x.0 (λ y h. ahead_has o.before t f.others y h) x.1 x.2 in
       let rest : length s + len (names (closed o t f.others f.pairs)) ≤ len (names w) = open_few s (closed o t f.others f.pairs) f.behind w f.whole c in
       omega arith
-
-  few_names : (s : NameSet) (limit : ℕ) → AllBelow s limit → len s ≤ limit
-  few_names s limit below = subst (λ n. n ≤ limit) (length-ascending s limit below) (few_below s 0 limit)
 
   length_opened : (s : List (OpenNode K P)) → length (opened s) ≡ length s
   length_opened [] = refl

@@ -81,8 +81,8 @@ next_least e s rest two is some =
       ),
     )
 
-not_both_before_other : (a b : NameSet) → IsBefore a b → IsBefore b a → ⊥
-not_both_before_other a b p q =
+pub not_both_before : (a b : NameSet) → IsBefore a b → IsBefore b a → ⊥
+not_both_before a b p q =
     let l : p.0 < q.0 = p.2 q.0 q.1 in
     let m : q.0 < p.0 = q.2 p.0 p.1 in
     omega arith
@@ -111,5 +111,5 @@ module _ {e : ℕ → ℕ → Bool} (col : IsColouring (λ c. c) e) where
     one_pairs = one_pairs e;
     next = λ s rest k kind is some. next_least e s rest (two_of_kind e s k kind) is some;
     fewer = λ k a b c before w. (before.0, before.1, λ y h. before.2 y (w y h));
-    not_both = λ k a b _ _ p q. not_both_before_other a b p q;
+    not_both = λ k a b _ _ p q. not_both_before a b p q;
   }

@@ -1,13 +1,17 @@
-use Rattle.std.proofs.Common.{◌++◌, ◌∙◌, refl, subst, arith}
+use Rattle.std.proofs.Common.{◌++◌, ◌∙◌, rules, refl, subst, arith}
 use Rattle.md_graph.specs.NameSet.{ascending_from}
 use Rattle.md_text.specs.Pieces.{piece_text, texts_at}
 use Rattle.md_blocks.proofs.BlockLemmas.{ArePut, nothing_more, empty_from, word_put, word_there, words_begin, words_more, words_end}
+use Rattle.std.proofs.lemmas.Result.{IfErr-weaker}
+use Rattle.md_blocks.specs.Refusals.{RefusesFront}
+use Rattle.md_blocks.proofs.Refusals.{refuses_longer}
 use Rattle.md_blocks.proofs.writer.write_members.Goals as goal
 
 pub returns-in_default : goal.returns-in_default
 returns-in_default g c = record {
   written = nothing_more c.args.pieces.now (piece_text c.args.start) (g.T.Target.bytes c.args.target.now ++ c.args.chunk.now) _ (empty_from c.args.set.now 0 c.args.from (omega arith) c.in_default.ensures.none);
   text = refl;
+  refused = tt;
 }
 
 pub loop-next-init : goal.loop-next-init
@@ -42,4 +46,12 @@ pub returns : goal.returns
 returns g c = record {
   written = words_end c.args.set.now c.args.pieces.now (piece_text c.args.start) c.loop-next.next _ _ c.in_default-next.is c.loop-next.invariant.put;
   text = c.loop-next.invariant.text;
+  refused = tt;
 }
+
+pub returns-in_err-make_room-clause-refused : goal.returns-in_err-make_room-clause-refused
+returns-in_err-make_room-clause-refused g c =
+    let there = g.T.Target.bytes c.loop-next.target ++ c.loop-next.chunk in
+    IfErr-weaker c.from_residual.result (RefusesFront g.T.Target.bytes g.T.Target.text g.T.Target.may_refuse c.loop-next.target there) _
+    (λ reason front. refuses_longer front _ _ c.loop-next.invariant.put.written c.loop-next.invariant.text)
+    (search rules)

@@ -9,13 +9,13 @@ spell-requires g c = record { some = c.requires.heads.some; ascending = c.requir
 pub returns-then-rest-text-clause-none : goal.returns-then-rest-text-clause-none
 returns-then-rest-text-clause-none g c tail some is =
     let found = c.in-Some.is in
-    let p = c.in_ok-rest.ensures in
+    let p = c.past_heads.ensures in
     let q = rw found at p in
     some (no_pairs g.P.Paired.rules _ c.args.text.now c.in-Some.rest.now q (let same = c.if-rest-text.true in omega arith))
 
 pub returns-clause-none : goal.returns-clause-none
 returns-clause-none g c =
     let found = c.in-Some.is in
-    let p = c.in_ok-rest.ensures in
+    let p = c.past_heads.ensures in
     let q = rw found at p in
     if_other _ c.past_bracket.result (λ other tail some is. other tail (append_cancel_left _ c.in-Some.rest.now (41 ∷ tail) (sym q ∙ is))) c.past_bracket.ensures

@@ -9,7 +9,8 @@ use Rattle.md_digraph.specs.PlainDigraph.{has_arc_to}
 use Rattle.md_dtree.specs.Balance.{arcs_from, arcs_to}
 use Rattle.md_ddecompose.specs.Ranks.{name_of, HasItsLag}
 use Rattle.md_ddecompose.proofs.CutLemmas.{IsCutUpTo, cut_begins, next_name, has_lag, r_in, turn_cuts, turn_goes_on, turn_bounds, sums_more, cut_ends}
-use Rattle.md_ddecompose.proofs.RankLemmas.{few_names, few_lags}
+use Rattle.md_graph.proofs.NameLemmas.{few_names}
+use Rattle.md_ddecompose.proofs.RankLemmas.{few_lags}
 use Rattle.md_ddecompose.proofs.order_parts.cut_ranks.Goals as goal
 
 pub loop-ranked-init : goal.loop-ranked-init
