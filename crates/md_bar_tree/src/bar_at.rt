@@ -29,8 +29,8 @@ pub fn has_bar_at<const W: usize>(graph: &GraphOf<W>, class: Class, w: u32) -> b
     }
 }
 
-// Whether a vertex and one of the others have each a neighbour that the other one lacks. Conditions:
-// `w` and the others are vertices.
+// Whether a vertex and one of the others have each a neighbour that the other one lacks.
+// Conditions: `w` and the others are vertices.
 fn some_crossing<const W: usize>(graph: &GraphOf<W>, w: u32, others: &Set<W>) -> bool
     requires vertex { Has graph.now.vertices w }
     requires others { Within others.now graph.now.vertices }

@@ -56,16 +56,16 @@ fn are_two_edges<const W: usize>(graph: &GraphOf<W>, a: u32, b: u32, c: u32, d: 
     in_pair_order(a, b, c, d) && has_two_edges(graph, a, b, c, d)
 }
 
-/// Whether four names stand in the order of a cycle: the first is the least, and the second is below
-/// the last.
+/// Whether four names stand in the order of a cycle: the first is the least, and the second is
+/// below the last.
 pub fn in_cycle_order(a: u32, b: u32, c: u32, d: u32) -> bool
     ensures exactly { IsTrue result ↔ IsCycleOrder a b c d }
 {
     a < b && a < c && a < d && b < d
 }
 
-/// Whether four names stand in the order of two edges: the smaller end of each comes first, and that
-/// of the first edge is below that of the second.
+/// Whether four names stand in the order of two edges: the smaller end of each comes first, and
+/// that of the first edge is below that of the second.
 pub fn in_pair_order(a: u32, b: u32, c: u32, d: u32) -> bool
     ensures exactly { IsTrue result ↔ IsPairOrder a b c d }
 {

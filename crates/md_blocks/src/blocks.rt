@@ -8,9 +8,9 @@ ghost use Rattle.md_text.specs.Pieces.{piece_text, texts_at};
 use md_graph::lowest;
 use md_text::{CHUNK_SIZE, Chunk, Piece};
 
-// Gathers, for each 1 in `bits`, the piece `start` and the one at the index of its name: bit k is for
-// the name `first + k`. There has to be such a piece for each of them, and room for the pieces of 64
-// names.
+// Gathers, for each 1 in `bits`, the piece `start` and the one at the index of its name: bit k is
+// for the name `first + k`. There has to be such a piece for each of them, and room for the pieces
+// of 64 names.
 pub(crate) fn write_block(first: u32, bits: u64, start: Piece, pieces: &[Piece], chunk: &mut Chunk)
     requires there { All (λ w. w < length pieces.now) (bits_between first bits 64) }
     requires fits { first + 64 < 2 ^ 32 }
@@ -92,7 +92,8 @@ fn lowest_name(first: u32, bits: u64) -> Option<(u32, u64)>
 #[inline(always)]
 pub(crate) fn bits_from(bits: u64, place: u32) -> u64
     requires place { place < 64 }
-    ensures bits { (k : ℕ) → k < 64 → bit_at result k ≡ (if nat_le place k then bit_at bits k else 0) }
+    ensures bits { (k : ℕ) → k < 64
+        → bit_at result k ≡ (if nat_le place k then bit_at bits k else 0) }
 {
     bits >> place << place
 }

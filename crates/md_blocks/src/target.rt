@@ -69,7 +69,8 @@ impl<'a> Target<Differs> for Compared<'a> {
     ghost text = { λ c. c.text.now };
 
     // The text doesn't go on with them.
-    ghost may_refuse = { λ c bytes reason. (rest : List ℕ) → drop c.same c.text.now ≢ bytes ++ rest };
+    ghost may_refuse = { λ c bytes reason. (rest : List ℕ)
+        → drop c.same c.text.now ≢ bytes ++ rest };
 
     #[inline]
     fn take_chunk(&mut self, chunk: &mut Chunk) -> Result<(), Differs> {

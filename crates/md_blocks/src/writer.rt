@@ -53,8 +53,8 @@ pub fn write_members<E, T: Target<E>, const W: usize>(
     Ok(())
 }
 
-/// Gathers two pieces behind the bytes of the chunk; where it has no room for them, the target takes
-/// those first.
+/// Gathers two pieces behind the bytes of the chunk; where it has no room for them, the target
+/// takes those first.
 ///
 /// # Errors
 ///

@@ -251,8 +251,8 @@ fn is_opening_line<const W: usize>(
     }
 }
 
-// Whether the line tells of a bar of the class in the graph, or of its tree where it is of the class.
-// Condition: the line's tree is well-formed.
+// Whether the line tells of a bar of the class in the graph, or of its tree where it is of the
+// class. Condition: the line's tree is well-formed.
 fn is_class_opening<const W: usize>(
     alloc: Global,
     class: Class,

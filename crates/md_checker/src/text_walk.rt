@@ -22,8 +22,8 @@ use md_tree::{Lettered, Opened, Paired, ascends, split_letter};
 use std::alloc::Global;
 
 // What is kept of a text that is read: of each finished tree its least name and the kind of its
-// root, if that is a node; the nodes that are open; all names; and, so that the names outside a node
-// are few, the vertices that are not read yet and the least names of the finished trees.
+// root, if that is a node; the nodes that are open; all names; and, so that the names outside a
+// node are few, the vertices that are not read yet and the least names of the finished trees.
 #[derive(Drop)]
 struct Walk<K: Drop, const W: usize> {
     least: Vec<u32>,

@@ -131,9 +131,9 @@ impl<const W: usize> ClassSessionOf<W> {
         &self.graph
     }
 
-    /// Answers an item as `apply_item` does, on rows of any width, with a counter of steps, of which
-    /// no bound is claimed. Conditions: the names in the item are below `64 * W`, the history has
-    /// room for it, and fits. Errors: want of memory; session and history then stay.
+    /// Answers an item as `apply_item` does, on rows of any width, with a counter of steps, of
+    /// which no bound is claimed. Conditions: the names in the item are below `64 * W`, the history
+    /// has room for it, and fits. Errors: want of memory; session and history then stay.
     pub fn apply_counting<L: Ledger>(
         &mut self,
         alloc: Global,
@@ -261,8 +261,9 @@ fn answer_uncounted<L: Ledger>(
     requires room { room_for item.now ≤ history.old.spare }
     requires fits { HistoryFits (64 * WORDS) (IsAllowedIn session.old.class) session.old.graph
         history.old.items }
-    ensures step { IfOk result (λ line. ItemStep (64 * WORDS) (Of session.old.class) session.old.graph
-        history.old.items item.now (plain_class_line line) session.new.graph history.new.items) }
+    ensures step { IfOk result (λ line. ItemStep (64 * WORDS) (Of session.old.class)
+        session.old.graph history.old.items item.now (plain_class_line line)
+        session.new.graph history.new.items) }
     ensures class { session.new.class ≡ session.old.class }
     ensures stays { IsErr result → session.new ≡ session.old }
     ensures kept { IsErr result → history.new.items ≡ history.old.items }

@@ -13,8 +13,8 @@ use md_script::{HistoryOf, take_back};
 use std::sync::ledger::Ledger;
 
 /// Takes the last item of a history back, and off it. Conditions: the cotree is that of the graph,
-/// there is room for a list of neighbours, an item stands, and its edits can be taken back, the last
-/// one first, over cographs.
+/// there is room for a list of neighbours, an item stands, and its edits can be taken back, the
+/// last one first, over cographs.
 pub fn take_back_item<const W: usize, L: Ledger>(
     graph: &mut GraphOf<W>,
     tree: &mut Cotree,

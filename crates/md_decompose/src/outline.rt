@@ -54,8 +54,8 @@ pub fn fill_outline<const W: usize>(
     lay_parts(alloc, graph, names, parts)
 }
 
-// The outline of the tree of the graph on the names, of which there is one, where there are no parts
-// yet. A prime graph has one part more than vertices; room for so many is taken at once.
+// The outline of the tree of the graph on the names, of which there is one, where there are no
+// parts yet. A prime graph has one part more than vertices; room for so many is taken at once.
 fn lay_parts<const W: usize>(
     alloc: Global,
     graph: &GraphOf<W>,

@@ -26,8 +26,8 @@ pub fn read_back<const W: usize>(alloc: Global, graph: &GraphOf<W>) -> Result<Gr
     Ok(read)
 }
 
-/// The graph that the DIMACS text of a graph spells: that graph, each vertex named by its place from
-/// 1 on. Condition: the graph has fewer vertices than there are names. Errors: want of memory.
+/// The graph that the DIMACS text of a graph spells: that graph, each vertex named by its place
+/// from 1 on. Condition: the graph has fewer vertices than there are names. Errors: want of memory.
 pub fn read_dimacs_back<const W: usize>(alloc: Global, graph: &GraphOf<W>) -> Result<Graph, Memory>
     requires fewer { len graph.now.vertices < NAMES }
     ensures renamed { IfOk result (IsRenamed graph.now) }

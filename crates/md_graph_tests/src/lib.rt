@@ -1,5 +1,5 @@
-//! Tests of names, graphs, directed graphs, modules, lists, partitions, forcing and orientations, by
-//! the public calls of their crates, and what a program over these can promise (`clients`). They
+//! Tests of names, graphs, directed graphs, modules, lists, partitions, forcing and orientations,
+//! by the public calls of their crates, and what a program over these can promise (`clients`). They
 //! stand in a crate of their own, since a crate with tests is proved a second time with them.
 #![tactic(auto)]
 

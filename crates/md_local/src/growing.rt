@@ -82,7 +82,8 @@ pub(crate) fn take_turn<'a, L: Ledger, const W: usize>(
         × IsWay (IsGrownBelow graph.now u v) t path.old.items current }
     ensures turn { IfOk result (λ turn. (t : PlainTree)
         → IsWay (IsGrownBelow graph.now u v) t path.old.items current.entry
-        → HasTurned (IsGrownBelow graph.now u v) (IsGrownFrom graph.now u v) t path.new.items turn) }
+        → HasTurned (IsGrownBelow graph.now u v) (IsGrownFrom graph.now u v) t
+        path.new.items turn) }
     ensures fewer { IfOk result (λ turn. turns_still_ahead path.new.items turn
         < turns_ahead path.old.items current.entry) }
     ensures rest { IfOk result (λ turn.

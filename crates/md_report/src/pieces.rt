@@ -146,8 +146,8 @@ fn is_piece_end(rest: &[u8]) -> bool
     }
 }
 
-/// The names that a text spells, a space before each; none where it is no such text. Errors: want of
-/// memory.
+/// The names that a text spells, a space before each; none where it is no such text. Errors: want
+/// of memory.
 pub fn names(alloc: Global, text: &[u8]) -> Result<Option<Vec<u32>>, Memory>
     ensures read { IfOk result (λ found.
         MatchOption found ((list : List ℕ) → All IsVertexName list → text.now ≢ names_text list)

@@ -39,10 +39,10 @@ pub fn are_in_no_form<F: Files, O: Sink, E: Sink>(
     matches!(run(alloc, words, files, out, err), Status::Usage)
 }
 
-/// The exit code of a run, from 0 to 7: 2 exactly where the words are in no form; 0 and 1 only where
-/// the input is well-formed and all that was put has reached the device, and 1 only where a report
-/// can be rejected; 3 only where the input can have a fault; 4, 5 and 7 only where a load, a write or
-/// the length of a file failed.
+/// The exit code of a run, from 0 to 7: 2 exactly where the words are in no form; 0 and 1 only
+/// where the input is well-formed and all that was put has reached the device, and 1 only where a
+/// report can be rejected; 3 only where the input can have a fault; 4, 5 and 7 only where a load, a
+/// write or the length of a file failed.
 pub fn number_of_run<F: Files, O: Sink, E: Sink>(
     alloc: Global,
     words: &[String],
@@ -65,8 +65,8 @@ pub fn number_of_run<F: Files, O: Sink, E: Sink>(
     run(alloc, words, files, out, err).number()
 }
 
-/// Whether the input of a run is well-formed; `None` where that can't be told, as the words are in no
-/// form, or a file can't be loaded or is too long. Errors: want of memory.
+/// Whether the input of a run is well-formed; `None` where that can't be told, as the words are in
+/// no form, or a file can't be loaded or is too long. Errors: want of memory.
 pub fn is_well_formed<F: Files, O: Sink, E: Sink>(
     alloc: Global,
     words: &[String],

@@ -1,5 +1,5 @@
-//! What a program over the crates of sessions can promise, proved from the contracts of their public
-//! calls alone.
+//! What a program over the crates of sessions can promise, proved from the contracts of their
+//! public calls alone.
 ghost use Rattle.std.specs.Prelude.{◌≡◌, ◌≤◌, ◌↔◌, ◌+◌, ◌*◌, None, true, false, IfOk, IsTrue};
 ghost use Rattle.md_graph.specs.PlainGraph.{adjacent};
 ghost use Rattle.md_tree.specs.Plain.{plain_option};

@@ -246,7 +246,8 @@ fn longest_scripts(rt: HostRuntime) -> Result<(), Fail> {
     check_longest(&rt, rt.alloc(), b"begin\n", EDITS - 1, b"commit\n", 1)
 }
 
-// The fault of a text of as many lines that count as a script may have, and what stands behind them.
+// The fault of a text of as many lines that count as a script may have, and what stands behind
+// them.
 fn check_behind(
     rt: &impl Abort,
     alloc: Global,

@@ -2,9 +2,9 @@
 //!
 //! A text is a slice of bytes. `split_line` and `split_field` take one line or one field off the
 //! front, `number` reads a field, and `push_number` writes a number. A `Piece` is a text of a few
-//! bytes that is made once and then copied whole, many times; `Numerals` are the pieces of the lowest
-//! numbers. Pieces are gathered in a `Chunk`, which is appended to a text when it is full. Only
-//! `push_number`, `Numerals` and what appends a chunk take memory.
+//! bytes that is made once and then copied whole, many times; `Numerals` are the pieces of the
+//! lowest numbers. Pieces are gathered in a `Chunk`, which is appended to a text when it is full.
+//! Only `push_number`, `Numerals` and what appends a chunk take memory.
 #![tactic(auto)]
 
 mod chunk;

@@ -36,8 +36,8 @@ impl Numerals {
         }
     }
 
-    /// Spells the numbers below `count`, those that aren't spelled yet. Condition: they have at most
-    /// five digits. Errors: want of memory; nothing then changes.
+    /// Spells the numbers below `count`, those that aren't spelled yet. Condition: they have at
+    /// most five digits. Errors: want of memory; nothing then changes.
     #[inline]
     pub fn spell(&mut self, count: u32) -> Result<(), AllocError>
         requires { count ≤ 10 ^ 5 }

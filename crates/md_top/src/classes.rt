@@ -40,8 +40,8 @@ pub fn put_class<const W: usize, O: Sink, L: Ledger>(
     out: &mut O,
 ) -> Result<(), PutStop>
     requires names { All (HasItemNamesBelow (64 * W)) script.now }
-    ensures puts { PutsLines (at_state (SessionMode.Of class) graph.entry script.now) after_end result
-        (sink_run O.Sink out.old out.new) }
+    ensures puts { PutsLines (at_state (SessionMode.Of class) graph.entry script.now) after_end
+        result (sink_run O.Sink out.old out.new) }
     ensures faults_never_fall { O.faults out.old ≤ O.faults out.new }
 {
     match ClassSessionOf::new(alloc, graph, class)? {

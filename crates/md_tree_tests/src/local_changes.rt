@@ -158,8 +158,8 @@ fn edit<L: Ledger>(
     rebuilt(rt, alloc, graph, u, v, work)
 }
 
-// Sees that the graph on the names below a number with these edges has the tree with this text after
-// an edit.
+// Sees that the graph on the names below a number with these edges has the tree with this text
+// after an edit.
 fn edit_of<L: Ledger>(
     rt: &impl Abort,
     alloc: Global,

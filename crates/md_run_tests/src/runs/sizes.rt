@@ -177,8 +177,8 @@ fn runs_over_edge_files_of_all_sizes(rt: HostRuntime) -> Result<(), Fail> {
     Ok(())
 }
 
-// Sees what a session of a mode puts for that graph of a size, where its one edge goes, and a vertex
-// with this name comes and goes again.
+// Sees what a session of a mode puts for that graph of a size, where its one edge goes, and a
+// vertex with this name comes and goes again.
 fn expect_session(
     rt: &impl Abort,
     alloc: Global,

@@ -1,6 +1,6 @@
 //! Trees by components, components of the complement and closures of pairs, a slow program that
-//! writes their texts, beside the fast one: on all graphs of up to five vertices, and on larger ones
-//! of many kinds.
+//! writes their texts, beside the fast one: on all graphs of up to five vertices, and on larger
+//! ones of many kinds.
 ghost use Rattle.md_graph.specs.Sets.{Within};
 
 use super::{is_same_set, join};
