@@ -16,6 +16,7 @@ status_at (suc (suc (suc (suc (suc (suc zero)))))) = Memory
 status_at (suc (suc (suc (suc (suc (suc (suc n))))))) = TooLong
 
 at_number : (s : Status) → status_at (exit_number s) ≡ s
+unfolding status_at
 at_number Done = refl
 at_number Rejected = refl
 at_number Usage = refl
