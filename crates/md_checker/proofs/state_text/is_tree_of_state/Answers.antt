@@ -1,10 +1,11 @@
-use Rattle.std.proofs.Common.{◌≡◌, Some, ◌∙◌, ap, subst}
+use Rattle.std.proofs.Common.{◌≡◌, None, Some, sym, ◌∙◌, ap, subst}
 use Rattle.md_graph.specs.PlainGraph.{adjacent}
 use Rattle.md_tree.specs.Plain.{plain, plain_option}
 use Rattle.md_tree.specs.StrongTrees.{IsTree}
 use Rattle.md_tree.specs.TreeTexts.{text_of}
 use Rattle.md_tree.proofs.Stacking.{if_ok}
 use Rattle.md_checker.proofs.GraphTexts.{same_tree}
+use Rattle.md_checker.proofs.StateTexts.{allowed_none}
 use Rattle.md_checker.proofs.state_text.is_tree_of_state.Goals as goal
 
 pub returns-in_ok-text-in-Some : goal.returns-in_ok-text-in-Some
@@ -26,4 +27,11 @@ returns-in_ok-text-in-Some g c =
     )) c.is_word_and_state.ensures
 
 pub returns-in-None : goal.returns-in-None
-returns-in-None g c = ?
+returns-in-None g c =
+    let h = c.args.graph.now in
+    let is_none : plain_option c.args.tree.now ≡ None = ap plain_option c.in-None.is in (
+      λ yes.
+          let none = sym c.vertices.ensures.set ∙ c.is_empty.ensures.exactly.0 yes in
+          (allowed_none c.args.mode c.vertices-vertices.ensures.graph none, subst (IsTree (adjacent h) h.vertices) (sym is_none) none),
+      λ both. c.is_empty.ensures.exactly.1 (c.vertices.ensures.set ∙ subst (IsTree (adjacent h) h.vertices) is_none both.1),
+    )

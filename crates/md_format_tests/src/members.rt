@@ -1,6 +1,5 @@
 //! The texts of members in two words, some of which stand below the first name; room for more.
-
-use super::*;
+use md_blocks::{Compared, Target, make_room, put_two, write_members};
 use md_graph::Set;
 use md_text::{CHUNK_SIZE, Chunk, digits_piece, number_piece, piece_behind};
 use std::test::Fail;

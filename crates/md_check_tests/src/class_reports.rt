@@ -1,5 +1,9 @@
 //! Reports of sessions on classes of graphs, and their answers.
-use super::*;
+use md_bar::Class;
+use md_bar_checker::check_class;
+use md_checker::CheckAnswer;
+use md_input::Format;
+use std::alloc::Global;
 use std::process::Abort;
 
 fn answer_of(

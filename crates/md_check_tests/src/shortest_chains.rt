@@ -1,4 +1,9 @@
-use super::*;
+//! Shortest forcing chains, and checks of reports of them.
+use md_checker::CheckAnswer;
+use md_graph::{GraphOf, Memory};
+use md_input::Format;
+use md_shortchain::{check_shortest, is_shortest, shortest_chain};
+use std::alloc::Global;
 use std::process::Abort;
 use std::test::Fail;
 

@@ -1,5 +1,5 @@
 //! Lines and their texts, there and back, and texts of no line.
-use super::*;
+use md_bar::{Bar, BarKind, Class, ClassLine, read_class, write_class};
 use md_report::LineFault;
 use std::test::Fail;
 

@@ -3,7 +3,7 @@ use Rattle.std.proofs.lemmas.List.Elements.{All-weaker}
 use Rattle.md_graph.specs.declared.TheConstants.{NAMES}
 use Rattle.md_graph.specs.NameSet.{ascending_from}
 use Rattle.md_graph.proofs.NameLemmas.{IsItem, ascending_items}
-use Rattle.md_blocks.proofs.tests.put_members.Goals as goal
+use Rattle.md_format_tests.proofs.members.put_members.Goals as goal
 
 pub write_members-requires : goal.write_members-requires
 write_members-requires g c =

@@ -1,6 +1,6 @@
 //! Bars of trees and of graphs as worked by hand, and of each cograph on up to five vertices as a
 //! search of all quadruples tells.
-use super::*;
+use md_bar_tree::{Bar, BarKind, Class, bar_of, has_bar_at, is_bar};
 use md_graph::{Graph, GraphOf};
 use md_tree::{graph_of, has_no_prime, read_tree};
 use std::alloc::{AllocError, Global};
