@@ -1,21 +1,23 @@
 -- A node fits where names of its children do, whichever names of them these are.
 use Rattle.std.proofs.Common.{◌≡◌, ℕ, zero, suc, ◌<◌, ◌≤◌, List, [], ◌∷◌, length, get_or, refl, sym, ◌∙◌, ap, ap₂, subst, inl, inr, arith}
+use Rattle.std.proofs.lemmas.Bool.{false_from_ne_true}
 use Rattle.std.specs.FinSet.{empty, union, insert, from_list, difference}
 use Rattle.md_graph.specs.Sets.{NameSet, Has, Lacks, Disjoint, Within, only_name}
-use Rattle.md_graph.proofs.SetLemmas.{clash, empty_lacks, of_only, of_union, union_left, union_right, same_members}
+use Rattle.md_graph.proofs.SetLemmas.{clash, empty_lacks, of_only, of_union, union_left, union_right, same_members, minus_has, Has-along}
 use Rattle.md_modules.specs.Colours.{IsColouring, AreTold}
 use Rattle.md_modules.proofs.Modules.{other_way}
 use Rattle.md_modules.specs.Kinds.{IsUnsplit}
 use Rattle.md_modules.specs.Modules.{IsModule, IsMaximalStrong, HasTrivialModulesAlone}
-use Rattle.md_tree.specs.Heads.{head_at, heads, AreChildModules, AreStrongChildren, IsFitNodeBy}
+use Rattle.md_tree.specs.Heads.{head, head_at, heads, AreChildModules, AreStrongChildren, IsFitNodeBy}
 use Rattle.md_tree.specs.Held.{IsLeast, AreLeast}
 use Rattle.md_tree.specs.Trees.{PlainTreeOf, PlainTreesOf, leaf, node, no_tree, one_more, names, names_below, names_at, count, row}
 use Rattle.md_tree.specs.WellFormed.{AreDisjoint}
 use Rattle.md_tree.proofs.Fitted.{at_places, told_by_heads, modules_below}
 use Rattle.md_tree.proofs.Folding.{count_row}
+use Rattle.md_tree.proofs.Heads.{place_of_child}
 use Rattle.md_tree.proofs.Holding.{least_length}
-use Rattle.md_tree.proofs.Nodes.{IsChild, at_inside}
-use Rattle.md_checker.specs.FitTests.{IsFitBy}
+use Rattle.md_tree.proofs.Nodes.{IsChild, child_inside, child_of_name, at_inside}
+use Rattle.md_checker.specs.FitTests.{AreAlike, IsFitBy}
 
 -- each number is the least name of the tree at its position
 pub least_here : {K P : Type 0} (ts : List (PlainTreeOf K P)) (ms : List ℕ) → AreLeast ts ms → (i : ℕ) → i < length ms → IsLeast (names_at (row ts) i) (get_or ms i 0)

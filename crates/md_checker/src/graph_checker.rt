@@ -94,7 +94,8 @@ impl<'a> GraphChecker<'a> {
         Ok(true)
     }
 
-    // Whether the line may come; it is then taken, and else nothing changes. Never inlined, as above.
+    // Whether the line may come; it is then taken, and else nothing changes. Never inlined, as
+    // above.
     #[inline(never)]
     pub(crate) fn feed(&mut self, alloc: Global, line: &ReportLine<'_>) -> Result<bool, Memory>
         ensures may { IfOk result (λ taken.

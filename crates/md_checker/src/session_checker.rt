@@ -167,7 +167,8 @@ impl<const W: usize> SessionChecker<W> {
         }
     }
 
-    // Whether the line may come; it is then taken, and else nothing changes. Never inlined, as above.
+    // Whether the line may come; it is then taken, and else nothing changes. Never inlined, as
+    // above.
     #[inline(never)]
     pub(crate) fn feed(&mut self, alloc: Global, line: &ReportLine<'_>) -> Result<bool, Memory>
         ensures may { IfOk result (λ taken.
@@ -251,8 +252,8 @@ fn opens<const W: usize>(
     }
 }
 
-// The same in a mode whose reports tell of the first state. Conditions: the history has no item, and
-// the mode is not quiet.
+// The same in a mode whose reports tell of the first state. Conditions: the history has no item,
+// and the mode is not quiet.
 fn opens_told<const W: usize>(
     alloc: Global,
     mode: SessionMode,

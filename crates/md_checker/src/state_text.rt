@@ -1,5 +1,5 @@
-//! Whether a text, or a tree that is given, is that of a graph that may be a state of a session. One
-//! pass tells both: no bar of a class is searched for.
+//! Whether a text, or a given tree, is that of a graph that may be a state of a session. One pass
+//! tells both: no bar of a class is searched for.
 ghost use Rattle.std.specs.Prelude.{◌≢◌, ◌*◌, ◌↔◌, ◌≤◌, IfOk, IsTrue};
 ghost use Rattle.md_graph.specs.declared.TheConstants.{WORDS};
 ghost use Rattle.md_graph.specs.PlainGraph.{adjacent};

@@ -1,4 +1,4 @@
-//! Whether a text, or a tree that is given, is that of strong modules of a graph. No tree is built.
+//! Whether a text, or a given tree, is that of strong modules of a graph. No tree is built.
 ghost use Rattle.std.specs.Prelude.{◌≡◌, ◌↔◌, ◌++◌, true, Some, IfOk, IsTrue};
 ghost use Rattle.md_graph.specs.PlainGraph.{adjacent};
 ghost use Rattle.md_tree.specs.Plain.{plain_option};

@@ -1,5 +1,4 @@
-//! Whether a text, or a tree that is given, is that of strong modules of a directed graph. No tree is
-//! built.
+//! Whether a text, or a given tree, is that of strong modules of a directed graph. No tree is built.
 ghost use Rattle.std.specs.Prelude.{◌≡◌, ◌↔◌, ◌*◌, ◌≤◌, ℕ, false, [], Some, IfOk, IsTrue};
 ghost use Rattle.std.specs.FinSet.{contains};
 ghost use Rattle.md_digraph.specs.ArcColours.{between};

@@ -14,7 +14,7 @@ returns-in_ok-text-in-Some g c =
     let o = plain_option c.args.tree.now in
     let t = plain c.in-Some.field-0 in
     let is_some : o ≡ Some t = ap plain_option c.in-Some.is in
-    let spelled = c.in_ok-text-in-Some.ensures.text in
+    let spelled = c.deref.ensures.value ∙ c.in_ok-text-in-Some.ensures.text in
     if_ok c.is_word_and_state.result
     (λ fit told. (
       λ yes. let s = told.0 yes in (s.allowed, subst (IsTree (adjacent h) h.vertices) (same_tree _ o s.tree spelled s.spelled) s.fits),

@@ -16,7 +16,7 @@ returns-in_ok-text-in-Some g c =
     let o = plain_option c.args.tree.now in
     let t = plain c.in-Some.field-0 in
     let is_some : o ≡ Some t = ap plain_option c.in-Some.is in
-    let spelled = c.in_ok-text-in-Some.ensures.text in
+    let spelled = c.deref.ensures.value ∙ c.in_ok-text-in-Some.ensures.text in
     if_ok c.is_text_of_tree.result
     (λ fit told. (
       λ yes. let u = told.0 yes in subst (IsTree (adjacent h) h.vertices) (same_tree _ o u.0 spelled u.3) u.2,
