@@ -25,6 +25,3 @@ pub enum ClassLine {
     /// this bar, and the graph stays.
     GroupRefused(u64, Bar),
 }
-
-#[cfg(test)]
-mod tests;

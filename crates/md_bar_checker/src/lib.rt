@@ -18,9 +18,6 @@ use md_input::{Format, InputStop};
 use md_report::SessionMode;
 use std::alloc::Global;
 
-#[cfg(test)]
-mod tests;
-
 /// Checks a report of a session on a class of graphs on the one graph of a graph file, over a
 /// script; both are read whole first. Errors: the first fault of the graph file, or its number of
 /// graphs, or the first fault of the script; want of memory.

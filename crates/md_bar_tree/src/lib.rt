@@ -42,6 +42,3 @@ pub struct Bar {
     pub c: u32,
     pub d: u32,
 }
-
-#[cfg(test)]
-mod tests;

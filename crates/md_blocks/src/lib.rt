@@ -12,6 +12,3 @@ mod writer;
 
 pub use target::{Compared, Differs, Target};
 pub use writer::{make_room, put_two, write_members};
-
-#[cfg(test)]
-mod tests;

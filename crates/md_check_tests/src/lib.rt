@@ -5,6 +5,8 @@
 
 #[cfg(test)]
 mod certificates;
+#[cfg(test)]
+mod class_reports;
 pub mod clients;
 #[cfg(test)]
 mod directed_reports;
@@ -14,6 +16,8 @@ mod directed_trees;
 mod report_lines;
 #[cfg(test)]
 mod reports;
+#[cfg(test)]
+mod shortest_chains;
 #[cfg(test)]
 mod states;
 #[cfg(test)]

@@ -1,7 +1,4 @@
 //! Reports and their answers.
-ghost use Rattle.md_report.specs.Lines.{plain_line};
-ghost use Rattle.md_report.specs.WellFormedLines.{IsWellFormedLine};
-
 use md_checker::{CheckAnswer, Checker, check_graphs, check_session};
 use md_input::{Format, InputStop};
 use md_report::{GraphMode, Line, Mode, SessionMode};
@@ -388,16 +385,14 @@ fn reports_in_mode_quiet(rt: HostRuntime) {
     }
 }
 
-// Sees whether the checker takes the line. Condition: the line is well-formed.
+// Sees whether the checker takes the line.
 fn feed(
     rt: &impl Abort,
     alloc: Global,
     checker: &mut Checker<'_>,
     line: &Line,
     want: bool,
-) -> Result<(), Fail>
-    requires { IsWellFormedLine (plain_line line.now) }
-{
+) -> Result<(), Fail> {
     assert_eq!(rt; checker.feed(alloc, line)?, want);
     Ok(())
 }
@@ -413,9 +408,7 @@ fn feed_lines(
     alloc: Global,
     checker: &mut Checker<'_>,
     tree: &Line,
-) -> Result<(), Fail>
-    requires { IsWellFormedLine (plain_line tree.now) }
-{
+) -> Result<(), Fail> {
     feed(rt, alloc, checker, &Line::End, false)?;
     expect_complete(rt, checker, false);
     feed(rt, alloc, checker, &Line::Head(Mode::Tree), true)?;

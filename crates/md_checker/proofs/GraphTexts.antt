@@ -1,5 +1,5 @@
 -- A graph as a comparison with the text of a tree sees it.
-use Rattle.std.proofs.Common.{◌≡◌, ℕ, ◌<◌, ◌≤◌, Bool, true, false, Some, min, max, List, [], ◌++◌, length, get_or, refl, sym, ◌∙◌, ap, ap₂, subst, true≢false, arith}
+use Rattle.std.proofs.Common.{◌≡◌, ℕ, ◌<◌, ◌≤◌, Bool, true, false, Option, Some, min, max, List, [], ◌++◌, length, get_or, refl, sym, ◌∙◌, ap, ap₂, subst, true≢false, arith}
 use Rattle.std.specs.Prelude.{◌↔◌, not, ⊤}
 use Rattle.std.proofs.lemmas.List.{append_cancel_left}
 use Rattle.std.specs.Cmp.{both_ways}
@@ -16,12 +16,13 @@ use Rattle.md_tree.specs.Held.{Ascends, MayListIf}
 use Rattle.md_tree.specs.Spellings.{is_prime, graph_kinds, graph_pairs}
 use Rattle.md_tree.specs.StrongTrees.{IsTreeOf}
 use Rattle.md_tree.specs.TreeGraph.{joins, lists_pair}
-use Rattle.md_tree.specs.TreeTexts.{tree_text}
+use Rattle.md_tree.specs.TreeTexts.{tree_text, text_of}
 use Rattle.md_tree.specs.Trees.{PlainTreeOf, PlainTreesOf, PlainTree, PlainTrees, leaf, node, no_tree, one_more, EachNode, EachNodeBelow}
 use Rattle.md_tree.specs.WellFormed.{IsWellFormed}
 use Rattle.md_tree.proofs.Graph.{of_lists, to_lists}
 use Rattle.md_tree.proofs.OneTree.{canonical_proof}
-use Rattle.md_tree.proofs.Spelled.{graph_pairs_law}
+use Rattle.md_tree.proofs.Spelled.{graph_law, graph_pairs_law}
+use Rattle.md_tree.proofs.Texts.{one_text_proof}
 use Rattle.md_checker.specs.FitTests.{AreJoined}
 use Rattle.md_outline.specs.NodeRows.{is_edge_up}
 use Rattle.md_checker.specs.GraphViews.{view_where}
@@ -127,6 +128,10 @@ text_found Admits {g} graph text t made is asked =
     let canon = (canonical_proof (adjacent g) (graph_adjacency graph) g.vertices t made).1 in
     let fit = (fits_proof (adjacent g) (graph_adjacency graph) g.vertices t canon).1 made in
     record { canonical = canon; names_are = fit.0; fits = fit.1; admitted = asked; spelled = is }
+
+-- a tree with the text of another one is that one
+pub same_tree : (text : List ℕ) (o : Option PlainTree) (t : PlainTree) → text ≡ text_of o → text ≡ tree_text t → Some t ≡ o
+same_tree text o t is other = one_text_proof graph_law (Some t) o (sym other ∙ is)
 
 -- what is behind a word
 pub word_cut : (word behind text : List ℕ) (t : PlainTree) → text ≡ word ++ behind → text ≡ word ++ tree_text t → behind ≡ tree_text t

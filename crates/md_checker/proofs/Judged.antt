@@ -1,6 +1,6 @@
 -- Lines that are judged for items: each builder makes of what a test told what comes of the line.
 use Rattle.std.proofs.Common.{◌≡◌, ◌↔◌, ℕ, ◌+◌, Bool, true, false, IsTrue, List, [], ◌∷◌, length, slice_get, Option, None, Some, Result, Ok, Err, IfOk, refl, sym, ◌∙◌, ap, subst, inl, inr}
-use Rattle.std.specs.Prelude.{IfSome, is_some, ⊤}
+use Rattle.std.specs.Prelude.{IfSome, is_some}
 use Rattle.md_graph.specs.PlainGraph.{PlainGraph}
 use Rattle.md_graph.proofs.SetLemmas.{clash}
 use Rattle.md_modules.specs.declared.induced_paths.P4.{P4}
@@ -153,7 +153,3 @@ told_yes r Told told so = (subst (λ x. IfOk x (λ fit. IsTrue fit ↔ Told)) so
 -- or no
 pub told_no : {X : Type 0} (r : Result Bool X) (Told : Type 0) → IfOk r (λ fit. IsTrue fit ↔ Told) → r ≡ Ok false → IsTrue false ↔ Told
 told_no r Told told so = subst (λ x. IfOk x (λ fit. IsTrue fit ↔ Told)) so told
-
-pub told_and_any : {X : Type 0} (r : Result Bool X) (Told : Type 0) → IfOk r (λ fit. IsTrue fit ↔ Told) → IfOk r (λ fit. IsTrue fit ↔ (⊤ × Told))
-told_and_any (Ok fit) Told told = ((λ so. (tt, told.0 so)), (λ both. told.1 both.1))
-told_and_any (Err e) Told told = tt

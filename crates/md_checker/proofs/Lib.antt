@@ -14,8 +14,6 @@ mod Moves
 mod Cutting
 pub mod Trivial
 pub mod FitRows
-pub mod FitNodes
-pub mod FitStacks
 mod NamedNodes
 mod TextWalk
 mod Twins
@@ -23,9 +21,8 @@ mod ArcTexts
 pub mod HeadPairs
 pub mod GraphTexts
 mod Taking
-mod Cotrees
 mod StateTexts
 mod Splitting
 mod PathLines
-mod LineTrees
+mod TreeLines
 mod ClassEdits

@@ -1,22 +1,23 @@
 -- A node fits where names of its children do, whichever names of them these are.
 use Rattle.std.proofs.Common.{◌≡◌, ℕ, zero, suc, ◌<◌, ◌≤◌, List, [], ◌∷◌, length, get_or, refl, sym, ◌∙◌, ap, ap₂, subst, inl, inr, arith}
+use Rattle.std.proofs.lemmas.Bool.{false_from_ne_true}
 use Rattle.std.specs.FinSet.{empty, union, insert, from_list, difference}
 use Rattle.md_graph.specs.Sets.{NameSet, Has, Lacks, Disjoint, Within, only_name}
-use Rattle.md_graph.proofs.SetLemmas.{clash, empty_lacks, of_only, of_union, union_left, union_right, same_members}
+use Rattle.md_graph.proofs.SetLemmas.{clash, empty_lacks, of_only, of_union, union_left, union_right, same_members, minus_has, Has-along}
 use Rattle.md_modules.specs.Colours.{IsColouring, AreTold}
 use Rattle.md_modules.proofs.Modules.{other_way}
 use Rattle.md_modules.specs.Kinds.{IsUnsplit}
 use Rattle.md_modules.specs.Modules.{IsModule, IsMaximalStrong, HasTrivialModulesAlone}
-use Rattle.md_tree.specs.Heads.{head_at, heads, AreChildModules, AreStrongChildren, IsFitNodeBy}
+use Rattle.md_tree.specs.Heads.{head, head_at, heads, AreChildModules, AreStrongChildren, IsFitNodeBy}
 use Rattle.md_tree.specs.Held.{IsLeast, AreLeast}
 use Rattle.md_tree.specs.Trees.{PlainTreeOf, PlainTreesOf, leaf, node, no_tree, one_more, names, names_below, names_at, count, row}
 use Rattle.md_tree.specs.WellFormed.{AreDisjoint}
 use Rattle.md_tree.proofs.Fitted.{at_places, told_by_heads, modules_below}
 use Rattle.md_tree.proofs.Folding.{count_row}
+use Rattle.md_tree.proofs.Heads.{place_of_child}
 use Rattle.md_tree.proofs.Holding.{least_length}
-use Rattle.md_tree.proofs.Nodes.{IsChild, at_inside}
-use Rattle.md_checker.specs.FitTests.{IsFitBy}
-use Rattle.md_checker.proofs.FitNodes.{alike_module}
+use Rattle.md_tree.proofs.Nodes.{IsChild, child_inside, child_of_name, at_inside}
+use Rattle.md_checker.specs.FitTests.{AreAlike, IsFitBy}
 
 -- each number is the least name of the tree at its position
 pub least_here : {K P : Type 0} (ts : List (PlainTreeOf K P)) (ms : List ℕ) → AreLeast ts ms → (i : ℕ) → i < length ms → IsLeast (names_at (row ts) i) (get_or ms i 0)
@@ -81,6 +82,27 @@ module _ {K P : Type 0} (k : K) where
     subst (λ s. Disjoint s (names_below (led ts ms))) (sym (led_names t m l.0.member)) (subst (Disjoint (names t)) (sym (led_below ts ms l.1)) a.0),
     led_apart ts ms l.1 a.1,
   )
+
+-- ---- names that stand for modules
+
+-- where the others agree on names that stand for modules, these make up a module
+module _ {K P C : Type 0} {reverse : C → C} {e : ℕ → ℕ → C} (col : IsColouring reverse e) (s : NameSet) (cs : PlainTreesOf K P) (some : 1 ≤ count cs) (list : List ℕ) (same_size : length list ≡ count cs)
+    (own : (i : ℕ) → i < count cs → Has (names_at cs i) (get_or list i 0)) (mods : (c : PlainTreeOf K P) → IsChild cs c → IsModule e s (names c)) where
+  pub alike_module : AreAlike e (difference s (names_below cs)) list → IsModule e s (names_below cs)
+  alike_module alike = record {
+    some = (let first : 0 < count cs = omega arith in (get_or list 0 0, at_inside cs 0 (get_or list 0 0) (own 0 first)));
+    inside = λ x h. let c = child_of_name cs x h in (mods c.0 c.1).inside x c.2;
+    alike = λ a b x ha hb hx l. first_like a x ha hx l ∙ sym (first_like b x hb hx l);
+  } where
+    first_like : (a x : ℕ) → Has (names_below cs) a → Has s x → Lacks (names_below cs) x → e x a ≡ e x (get_or list 0 0)
+    first_like a x ha hx l =
+        let c : (c : PlainTreeOf K P) × IsChild cs c × Has (names c) a = child_of_name cs a ha in
+        let i : (i : ℕ) × (i < count cs) × (names_at cs i ≡ names c.0) × (head_at cs i ≡ head c.0) = place_of_child cs c.0 c.1 in
+        let out : Lacks (names c.0) x = false_from_ne_true _ (λ h. clash (child_inside cs c.0 c.1 x h) l) in
+        let b : i.0 < count cs = i.1 in
+        let h : Has (names c.0) (get_or list i.0 0) = Has-along (names_at cs i.0) (names c.0) i.2 (get_or list i.0 0) (own i.0 b) in
+        (mods c.0 c.1).alike a (get_or list i.0 0) x c.2 h hx out
+        ∙ other_way col (get_or list i.0 0) x (get_or list 0 0) x (sym (alike i.0 x (omega arith) (minus_has s (names_below cs) x hx l)))
 
 -- ---- a node with names of its children
 

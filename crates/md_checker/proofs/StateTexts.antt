@@ -10,7 +10,7 @@ use Rattle.md_bar_tree.specs.Inner.{IsInnerTree, AreLeaves, HasOneInner, IsNarro
 use Rattle.md_bar_tree.proofs.BarLaw.{no_bar_if_few_inner_proof}
 use Rattle.md_tree.specs.declared.Kind.TheVariants.{Prime}
 use Rattle.md_tree.specs.Spellings.{graph_kinds, graph_pairs}
-use Rattle.md_tree.specs.StrongTrees.{IsTreeOf}
+use Rattle.md_tree.specs.StrongTrees.{IsTree, IsTreeOf}
 use Rattle.md_tree.specs.Trees.{PlainTreeOf, PlainTreesOf, PlainTree, leaf, node, no_tree, one_more, row, EachNode, EachNodeBelow}
 use Rattle.md_report.specs.declared.line.SessionMode.{SessionMode}
 use Rattle.md_report.specs.declared.line.SessionMode.TheVariants.{Edit, Cograph, Quiet, Of}
@@ -62,6 +62,14 @@ allowed_nodes (Of class) {g} graph t made allowed =
     let cograph : IsCograph g = λ p. allowed (record { kind = BarP4; a = p.0; b = p.1; c = p.2; d = p.3 }, record { bars = tt; is = p.4 }) in
     both_each (λ k cs ps. k ≢ Prime) (λ k cs ps. IsNarrow class k → HasOneInner cs) t ((cograph_by_tree g graph (Some t) made).1 cograph)
     ((no_bar_if_few_inner_proof (adjacent g) (graph_adjacency graph) g.vertices (Some t) made cograph class).0 allowed)
+
+-- a graph without vertices may be a state in each mode
+pub allowed_none : (mode : SessionMode) {g : PlainGraph} → IsGraph g → IsTree (adjacent g) g.vertices None → IsAllowed mode g
+allowed_none Edit graph none = tt
+allowed_none Cograph {g} graph none = (cograph_by_tree g graph None none).0 tt
+allowed_none Quiet {g} graph none = (cograph_by_tree g graph None none).0 tt
+allowed_none (Of class) {g} graph none =
+    (no_bar_if_few_inner_proof (adjacent g) (graph_adjacency graph) g.vertices None none ((cograph_by_tree g graph None none).0 tt) class).1 tt
 
 -- a text that the comparison takes is that of a state, behind the word
 pub state_told : (mode : SessionMode) {g : PlainGraph} → IsGraph g → (word behind text : List ℕ) → text ≡ word ++ behind → (t : PlainTree) → IsTextOfTree graph_kinds graph_pairs (state_view mode g) behind t → IsStateText mode g word text

@@ -1,8 +1,6 @@
--- The lines of reports as they are judged: the plain lines that they are, and which have well-formed trees.
+-- The lines of reports as they are judged: the plain lines that they are.
 -- Source: this project's own format of reports.
-use Rattle.std.specs.Prelude.{⊤}
-use Rattle.md_tree.specs.WellFormed.{IsWellFormed}
-use Rattle.md_report.specs.Lines.{PlainLine, plain_line, head_class, tree, applied, refused_bar, group_refused_bar, barred}
+use Rattle.md_report.specs.Lines.{PlainLine, plain_line, head_class, refused_bar, group_refused_bar, barred}
 use Rattle.md_checker.specs.declared.report_line.ReportLine.{ReportLine}
 use Rattle.md_checker.specs.declared.report_line.ReportLine.TheVariants.{Plain, Head, First, Refused, GroupRefused}
 
@@ -13,9 +11,3 @@ plain_report_line (Head class) = head_class class
 plain_report_line (First bar) = barred bar
 plain_report_line (Refused bar) = refused_bar bar
 plain_report_line (GroupRefused number bar) = group_refused_bar number bar
-
--- the tree of which the line tells, if it tells of one, is well-formed
-abbrev pub HasWellFormedTree : PlainLine → Type 0
-HasWellFormedTree (tree t) = IsWellFormed t
-HasWellFormedTree (applied t) = IsWellFormed t
-HasWellFormedTree _ = ⊤

@@ -11,7 +11,7 @@ ghost use Rattle.md_report.specs.Lines.{PlainLine, plain_line, line_text, limit_
 ghost use Rattle.md_report.specs.WellFormedLines.{IsWellFormedLine};
 ghost use Rattle.md_report.specs.Places.{before_head, before_session, after_end, MayCome, next_place};
 ghost use Rattle.md_checker.specs.Checkers.{report_place};
-ghost use Rattle.md_checker.specs.ReportLines.{plain_report_line, HasWellFormedTree};
+ghost use Rattle.md_checker.specs.ReportLines.{plain_report_line};
 ghost use Rattle.md_checker.specs.Standing.{Takes};
 
 use crate::graph_checker::GraphChecker;
@@ -120,10 +120,9 @@ impl<'a> Checker<'a> {
         }
     }
 
-    /// Whether the line may come: it is then taken, and else nothing changes. Condition: the line
-    /// is well-formed. Errors: want of memory; nothing changes then.
+    /// Whether the line may come: it is then taken, and else nothing changes. Errors: want of
+    /// memory; nothing changes then.
     pub fn feed(&mut self, alloc: Global, line: &Line) -> Result<bool, Memory>
-        requires { IsWellFormedLine (plain_line line.now) }
         ensures may { IfOk result (λ taken.
             IsTrue taken ↔ MayCome self.old (plain_line line.now)) }
         ensures next { IfOk result (λ taken. self.new
@@ -133,9 +132,8 @@ impl<'a> Checker<'a> {
         self.feed_line(alloc, &ReportLine::Plain(line))
     }
 
-    // The same of a line of any report. Condition: the line's tree is well-formed.
+    // The same of a line of any report.
     fn feed_line(&mut self, alloc: Global, line: &ReportLine<'_>) -> Result<bool, Memory>
-        requires { HasWellFormedTree (plain_report_line line.now) }
         ensures may { IfOk result (λ taken.
             IsTrue taken ↔ MayCome self.old (plain_report_line line.now)) }
         ensures next { IfOk result (λ taken. self.new
@@ -273,10 +271,8 @@ impl<'a> Inner<'a> {
         }
     }
 
-    // Whether the line may come; it is then taken, and else nothing changes. Condition: the line's
-    // tree is well-formed.
+    // Whether the line may come; it is then taken, and else nothing changes.
     fn feed(&mut self, alloc: Global, line: &ReportLine<'_>) -> Result<bool, Memory>
-        requires { HasWellFormedTree (plain_report_line line.now) }
         ensures may { IfOk result (λ taken.
             IsTrue taken ↔ MayCome (report_place self.old) (plain_report_line line.now)) }
         ensures next { IfOk result (λ taken. report_place self.new

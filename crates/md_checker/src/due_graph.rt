@@ -3,7 +3,7 @@ ghost use Rattle.std.specs.Prelude.{◌≡◌, ◌↔◌, [], false, IfOk, IsTru
 ghost use Rattle.md_report.specs.Lines.{PlainLine, line_text};
 ghost use Rattle.md_report.specs.Places.{Reports};
 ghost use Rattle.md_checker.specs.Hands.{graphs_left, IsHand};
-ghost use Rattle.md_checker.specs.ReportLines.{plain_report_line, HasWellFormedTree};
+ghost use Rattle.md_checker.specs.ReportLines.{plain_report_line};
 
 use crate::certificates::is_word_and_orientation;
 use crate::judgements::reports;
@@ -63,9 +63,8 @@ impl DueGraph {
         self.is_there = false;
     }
 
-    // Whether the line reports the graph. Condition: the line's tree is well-formed.
+    // Whether the line reports the graph.
     pub(crate) fn is_reported(&self, alloc: Global, line: &ReportLine<'_>) -> Result<bool, Memory>
-        requires line { HasWellFormedTree (plain_report_line line.now) }
         ensures { IfOk result (λ fit. IsTrue fit
             ↔ Reports self.now.mode self.now.room (plain_report_line line.now)) }
     {

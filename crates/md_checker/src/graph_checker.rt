@@ -1,7 +1,7 @@
 //! Checks the lines of a report over graphs, one after the other.
 ghost use Rattle.std.specs.Prelude.{◌≡◌, ◌↔◌, if◌then◌else◌, IfOk, IsErr, IsTrue};
 ghost use Rattle.md_report.specs.Places.{before_head, after_end, MayCome, next_place};
-ghost use Rattle.md_checker.specs.ReportLines.{plain_report_line, HasWellFormedTree};
+ghost use Rattle.md_checker.specs.ReportLines.{plain_report_line};
 ghost use Rattle.md_checker.specs.Standing.{Takes};
 
 use crate::due_graph::DueGraph;
@@ -94,11 +94,10 @@ impl<'a> GraphChecker<'a> {
         Ok(true)
     }
 
-    // Whether the line may come; it is then taken, and else nothing changes. Condition: the
-    // line's tree is well-formed. Never inlined, as above.
+    // Whether the line may come; it is then taken, and else nothing changes. Never inlined, as
+    // above.
     #[inline(never)]
     pub(crate) fn feed(&mut self, alloc: Global, line: &ReportLine<'_>) -> Result<bool, Memory>
-        requires { HasWellFormedTree (plain_report_line line.now) }
         ensures may { IfOk result (λ taken.
             IsTrue taken ↔ MayCome self.old (plain_report_line line.now)) }
         ensures next { IfOk result (λ taken. self.new

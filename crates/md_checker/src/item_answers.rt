@@ -12,18 +12,17 @@ ghost use Rattle.md_script.specs.Items.{HasItemNamesBelow};
 ghost use Rattle.md_script.specs.Pasts.{Led, MayBack, AnyGraph, taken_back};
 ghost use Rattle.md_script.specs.Histories.{HistoryFits};
 ghost use Rattle.md_report.specs.Lines.{applied, applied_quiet, refused, refused_bar, group_refused, group_refused_bar, nothing_to_undo};
-ghost use Rattle.md_report.specs.Cographs.{IsCograph};
-ghost use Rattle.md_report.specs.Classes.{IsAllowedIn};
 ghost use Rattle.md_report.specs.Sessions.{HasTreeLine};
 ghost use Rattle.md_report.specs.ItemLines.{IsAllowed, IsBarred, IsDoneLine};
 ghost use Rattle.md_checker.specs.Judged.{IsJudged, IsTried};
-ghost use Rattle.md_checker.specs.ReportLines.{plain_report_line, HasWellFormedTree};
+ghost use Rattle.md_checker.specs.ReportLines.{plain_report_line};
 
 use crate::class_test::makes_bar;
-use crate::judgements::{bars_state, is_tree_of_class, is_tree_of_cograph, is_true};
+use crate::judgements::{bars_state, is_true};
 use crate::report_line::ReportLine;
-use crate::tree_fit::fits;
-use md_bar::{Bar, Class};
+use crate::state_text::is_tree_of_state;
+use crate::text_fit::fits;
+use md_bar::Bar;
 use md_graph::{GraphOf, Memory};
 use md_report::{Line, SessionMode, made_p4};
 use md_script::{
@@ -44,8 +43,8 @@ pub(crate) enum Tried {
 }
 
 // Whether the line answers the item: graph and history are then those behind it; else, and for want
-// of memory, they stay. Conditions: the line's tree is well-formed, the names in the item are
-// below `64 * W`, the history fits, and the graph may be a state of a session of the mode.
+// of memory, they stay. Conditions: the names in the item are below `64 * W`, the history fits, and
+// the graph may be a state of a session of the mode.
 pub(crate) fn answers_item<const W: usize>(
     alloc: Global,
     mode: SessionMode,
@@ -54,7 +53,6 @@ pub(crate) fn answers_item<const W: usize>(
     item: &Item,
     line: &ReportLine<'_>,
 ) -> Result<bool, Memory>
-    requires line { HasWellFormedTree (plain_report_line line.now) }
     requires names { HasItemNamesBelow (64 * W) item.now }
     requires fits { HistoryFits (64 * W) (IsAllowed mode) graph.old history.old.items }
     requires allowed { IsAllowed mode graph.old }
@@ -79,7 +77,6 @@ fn answers_edit<const W: usize>(
     edit: &Edit,
     line: &ReportLine<'_>,
 ) -> Result<bool, Memory>
-    requires line { HasWellFormedTree (plain_report_line line.now) }
     requires names { HasNamesBelow (64 * W) edit.now }
     requires fits { HistoryFits (64 * W) (IsAllowed mode) graph.old history.old.items }
     requires allowed { IsAllowed mode graph.old }
@@ -106,7 +103,6 @@ fn tells_applied<const W: usize>(
     edit: &Edit,
     line: &ReportLine<'_>,
 ) -> Result<bool, Memory>
-    requires line { HasWellFormedTree (plain_report_line line.now) }
     requires other { (bar : Bar) → plain_report_line line.now ≡ refused_bar bar → ⊥ }
     requires applies { reason_of graph.old edit.now ≡ None }
     requires names { HasNamesBelow (64 * W) edit.now }
@@ -131,8 +127,7 @@ fn tells_applied<const W: usize>(
 }
 
 // Whether the graph, to which the edit led, may be a state of a session of the mode, and the line
-// tells that it is. Conditions: the line's tree is well-formed, and the graph before was such a
-// state.
+// tells that it is. Condition: the graph before was such a state.
 fn is_led_line<const W: usize>(
     alloc: Global,
     mode: SessionMode,
@@ -140,28 +135,25 @@ fn is_led_line<const W: usize>(
     edit: &Edit,
     line: &ReportLine<'_>,
 ) -> Result<bool, Memory>
-    requires line { HasWellFormedTree (plain_report_line line.now) }
     requires led { (g : PlainGraph) × Led (64 * W) g edit.now graph.now × IsAllowed mode g }
     ensures { IfOk result (λ fit. IsTrue fit ↔ (IsAllowed mode graph.now
         × IsDoneLine mode graph.now (plain_report_line line.now))) }
 {
     match mode {
-        SessionMode::Edit => is_applied_tree(alloc, graph, line),
-        SessionMode::Cograph => is_applied_cotree(alloc, graph, line),
+        SessionMode::Edit => is_applied_state(alloc, mode, graph, line),
+        SessionMode::Cograph => is_applied_state(alloc, mode, graph, line),
         SessionMode::Quiet => Ok(is_applied_quiet(line) && !is_barred(mode, graph, edit)),
-        SessionMode::Of(class) => is_applied_tree_of_class(alloc, class, graph, line),
+        SessionMode::Of(_) => is_applied_state(alloc, mode, graph, line),
     }
 }
 
-// Whether the line tells that an item was applied, which left the graph. Condition: the line's
-// tree is well-formed.
+// Whether the line tells that an item was applied, which left the graph.
 fn is_done_line<const W: usize>(
     alloc: Global,
     mode: SessionMode,
     graph: &GraphOf<W>,
     line: &ReportLine<'_>,
 ) -> Result<bool, Memory>
-    requires { HasWellFormedTree (plain_report_line line.now) }
     ensures { IfOk result (λ fit. IsTrue fit
         ↔ IsDoneLine mode graph.now (plain_report_line line.now)) }
 {
@@ -173,14 +165,12 @@ fn is_done_line<const W: usize>(
     }
 }
 
-// Whether the line tells that an item was applied, with the tree of the graph. Condition: the
-// line's tree is well-formed.
+// Whether the line tells that an item was applied, with the tree of the graph.
 fn is_applied_tree<const W: usize>(
     alloc: Global,
     graph: &GraphOf<W>,
     line: &ReportLine<'_>,
 ) -> Result<bool, Memory>
-    requires { HasWellFormedTree (plain_report_line line.now) }
     ensures { IfOk result (λ fit. IsTrue fit
         ↔ HasTreeLine applied graph.now (plain_report_line line.now)) }
 {
@@ -190,35 +180,18 @@ fn is_applied_tree<const W: usize>(
     }
 }
 
-// The same, and the graph is a cograph.
-fn is_applied_cotree<const W: usize>(
+// The same, and the graph may be a state of a session of the mode.
+fn is_applied_state<const W: usize>(
     alloc: Global,
+    mode: SessionMode,
     graph: &GraphOf<W>,
     line: &ReportLine<'_>,
 ) -> Result<bool, Memory>
-    requires { HasWellFormedTree (plain_report_line line.now) }
-    ensures { IfOk result (λ fit. IsTrue fit ↔ (IsCograph graph.now
+    ensures { IfOk result (λ fit. IsTrue fit ↔ (IsAllowed mode graph.now
         × HasTreeLine applied graph.now (plain_report_line line.now))) }
 {
     match line {
-        ReportLine::Plain(Line::Applied(tree)) => is_tree_of_cograph(alloc, graph, tree),
-        _ => Ok(false),
-    }
-}
-
-// The same, and the graph is of the class.
-fn is_applied_tree_of_class<const W: usize>(
-    alloc: Global,
-    class: Class,
-    graph: &GraphOf<W>,
-    line: &ReportLine<'_>,
-) -> Result<bool, Memory>
-    requires { HasWellFormedTree (plain_report_line line.now) }
-    ensures { IfOk result (λ fit. IsTrue fit ↔ (IsAllowedIn class graph.now
-        × HasTreeLine applied graph.now (plain_report_line line.now))) }
-{
-    match line {
-        ReportLine::Plain(Line::Applied(tree)) => is_tree_of_class(alloc, class, graph, tree),
+        ReportLine::Plain(Line::Applied(tree)) => is_tree_of_state(alloc, mode, graph, tree),
         _ => Ok(false),
     }
 }
@@ -287,7 +260,6 @@ fn answers_group<const W: usize>(
     edits: &Edits,
     line: &ReportLine<'_>,
 ) -> Result<bool, Memory>
-    requires line { HasWellFormedTree (plain_report_line line.now) }
     requires names { All (HasNamesBelow (64 * W)) edits.now }
     requires fits { HistoryFits (64 * W) (IsAllowed mode) graph.old history.old.items }
     requires allowed { IsAllowed mode graph.old }
@@ -396,7 +368,6 @@ fn answers_undo<const W: usize>(
     history: &mut HistoryOf<W>,
     line: &ReportLine<'_>,
 ) -> Result<bool, Memory>
-    requires line { HasWellFormedTree (plain_report_line line.now) }
     requires fits { HistoryFits (64 * W) (IsAllowed mode) graph.old history.old.items }
     requires allowed { IsAllowed mode graph.old }
     ensures judged { IfOk result (λ taken. IsJudged taken (64 * W) mode graph.old

@@ -4,41 +4,37 @@ ghost use Rattle.md_graph.specs.PlainGraph.{adjacent};
 ghost use Rattle.md_comparability.specs.Chains.{HasForcingChain, IsForcingChain, IsShortestChain};
 ghost use Rattle.md_forcing.specs.declared.arc_set.Side.TheVariants.{NonEdges};
 ghost use Rattle.md_forcing.specs.Sides.{adjacent_on};
-ghost use Rattle.md_tree.specs.Plain.{plain_option};
-ghost use Rattle.md_tree.specs.StrongTrees.{IsTree};
-ghost use Rattle.md_tree.specs.WellFormed.{IsWellFormed};
 ghost use Rattle.md_report.specs.Lines.{tree, barred, not_cograph};
 ghost use Rattle.md_report.specs.Places.{Reports, ReportsState, ClosesItems};
 ghost use Rattle.md_report.specs.Sessions.{HasTreeLine};
 ghost use Rattle.md_report.specs.Orientations.{IsOrientationLine, IsShortestLine};
 ghost use Rattle.md_report.specs.Models.{IsModelLine};
-ghost use Rattle.md_report.specs.Cographs.{IsP4Bar, IsCograph, HasP4Line, IsOpeningLine};
-ghost use Rattle.md_report.specs.Classes.{IsAllowedIn, HasBarLine, IsClassOpening};
+ghost use Rattle.md_report.specs.Cographs.{IsP4Bar, HasP4Line, IsOpeningLine};
+ghost use Rattle.md_report.specs.Classes.{HasBarLine, IsClassOpening};
 ghost use Rattle.md_report.specs.ItemLines.{IsBarred};
-ghost use Rattle.md_checker.specs.ReportLines.{plain_report_line, HasWellFormedTree};
+ghost use Rattle.md_checker.specs.ReportLines.{plain_report_line};
 
 use crate::certificates::{is_forcing_chain, is_least_edge_orientation, realise};
 use crate::fixed_lines::is_end;
 use crate::report_line::ReportLine;
-use crate::tree_fit::fits;
-use md_bar::{Bar, BarKind, Class, bar_of, is_bar};
+use crate::state_text::is_tree_of_state;
+use crate::text_fit::fits;
+use md_bar::{Bar, BarKind, Class, is_bar};
 use md_comparability::{ClassOrChosen, orient_classes};
 use md_forcing::{Chain, Side};
 use md_graph::{Graph, GraphOf, Memory};
 use md_levels::is_shortest;
 use md_modules::{P4, is_p4};
 use md_report::{GraphMode, Line, SessionMode};
-use md_tree::{Tree, has_no_prime};
 use std::alloc::Global;
 
-// Whether the line reports the graph. Condition: the line's tree is well-formed.
+// Whether the line reports the graph.
 pub(crate) fn reports<const W: usize>(
     alloc: Global,
     mode: GraphMode,
     graph: &GraphOf<W>,
     line: &ReportLine<'_>,
 ) -> Result<bool, Memory>
-    requires { HasWellFormedTree (plain_report_line line.now) }
     ensures { IfOk result (λ fit. IsTrue fit
         ↔ Reports mode graph.now (plain_report_line line.now)) }
 {
@@ -50,13 +46,12 @@ pub(crate) fn reports<const W: usize>(
     }
 }
 
-// Whether the line is that of the tree of the graph. Condition: the line's tree is well-formed.
+// Whether the line is that of the tree of the graph.
 fn is_tree_line<const W: usize>(
     alloc: Global,
     graph: &GraphOf<W>,
     line: &ReportLine<'_>,
 ) -> Result<bool, Memory>
-    requires { HasWellFormedTree (plain_report_line line.now) }
     ensures { IfOk result (λ fit. IsTrue fit
         ↔ HasTreeLine tree graph.now (plain_report_line line.now)) }
 {
@@ -166,14 +161,13 @@ fn has_forcing_chain<const W: usize>(alloc: Global, graph: &GraphOf<W>) -> Resul
     }
 }
 
-// Whether the line reports the first state of a session. Condition: the line's tree is well-formed.
+// Whether the line reports the first state of a session.
 pub(crate) fn reports_state<const W: usize>(
     alloc: Global,
     mode: SessionMode,
     graph: &GraphOf<W>,
     line: &ReportLine<'_>,
 ) -> Result<bool, Memory>
-    requires { HasWellFormedTree (plain_report_line line.now) }
     ensures { IfOk result (λ fit. IsTrue fit
         ↔ ReportsState mode graph.now (plain_report_line line.now)) }
 {
@@ -215,15 +209,13 @@ fn is_path<const W: usize>(graph: &GraphOf<W>, bar: &Bar) -> bool
     kind == BarKind::P4 && is_p4(graph, &P4 { a, b, c, d })
 }
 
-// Whether the line is the one behind all answers, where the graph is the last one. Condition: the
-// line's tree is well-formed.
+// Whether the line is the one behind all answers, where the graph is the last one.
 pub(crate) fn closes_items<const W: usize>(
     alloc: Global,
     mode: SessionMode,
     graph: &GraphOf<W>,
     line: &ReportLine<'_>,
 ) -> Result<bool, Memory>
-    requires { HasWellFormedTree (plain_report_line line.now) }
     ensures { IfOk result (λ fit. IsTrue fit
         ↔ ClosesItems mode graph.now (plain_report_line line.now)) }
 {
@@ -241,30 +233,32 @@ fn is_opening_line<const W: usize>(
     graph: &GraphOf<W>,
     line: &ReportLine<'_>,
 ) -> Result<bool, Memory>
-    requires { HasWellFormedTree (plain_report_line line.now) }
     ensures { IfOk result (λ fit. IsTrue fit
         ↔ IsOpeningLine graph.now (plain_report_line line.now)) }
 {
     match line {
-        ReportLine::Plain(Line::Tree(tree)) => is_tree_of_cograph(alloc, graph, tree),
+        ReportLine::Plain(Line::Tree(tree)) => {
+            is_tree_of_state(alloc, SessionMode::Cograph, graph, tree)
+        }
         _ => Ok(is_path_line(graph, line)),
     }
 }
 
 // Whether the line tells of a bar of the class in the graph, or of its tree where it is of the
-// class. Condition: the line's tree is well-formed.
+// class.
 fn is_class_opening<const W: usize>(
     alloc: Global,
     class: Class,
     graph: &GraphOf<W>,
     line: &ReportLine<'_>,
 ) -> Result<bool, Memory>
-    requires { HasWellFormedTree (plain_report_line line.now) }
     ensures { IfOk result (λ fit. IsTrue fit
         ↔ IsClassOpening class graph.now (plain_report_line line.now)) }
 {
     match line {
-        ReportLine::Plain(Line::Tree(tree)) => is_tree_of_class(alloc, class, graph, tree),
+        ReportLine::Plain(Line::Tree(tree)) => {
+            is_tree_of_state(alloc, SessionMode::Of(class), graph, tree)
+        }
         _ => Ok(is_bar_line(class, graph, line)),
     }
 }
@@ -277,44 +271,6 @@ fn is_bar_line<const W: usize>(class: Class, graph: &GraphOf<W>, line: &ReportLi
         Some(bar) => is_bar(graph, class, &bar),
         None => false,
     }
-}
-
-// Whether the graph is of the class, and the tree is that of it.
-pub(crate) fn is_tree_of_class<const W: usize>(
-    alloc: Global,
-    class: Class,
-    graph: &GraphOf<W>,
-    tree: &Option<Tree>,
-) -> Result<bool, Memory>
-    requires { IsWellFormed (plain_option tree.now) }
-    ensures { IfOk result (λ fit. IsTrue fit ↔ (IsAllowedIn class graph.now
-        × IsTree (adjacent graph.now) graph.now.vertices (plain_option tree.now))) }
-{
-    let _vertices = graph.vertices();
-    if !has_no_prime(tree) {
-        return Ok(false);
-    }
-    if bar_of(tree, class).is_some() {
-        return Ok(false);
-    }
-    fits(alloc, graph, tree)
-}
-
-// Whether the graph is a cograph, and the tree is that of it.
-pub(crate) fn is_tree_of_cograph<const W: usize>(
-    alloc: Global,
-    graph: &GraphOf<W>,
-    tree: &Option<Tree>,
-) -> Result<bool, Memory>
-    requires { IsWellFormed (plain_option tree.now) }
-    ensures { IfOk result (λ fit. IsTrue fit ↔ (IsCograph graph.now
-        × IsTree (adjacent graph.now) graph.now.vertices (plain_option tree.now))) }
-{
-    let _vertices = graph.vertices();
-    if !has_no_prime(tree) {
-        return Ok(false);
-    }
-    fits(alloc, graph, tree)
 }
 
 // Whether an answer is that something is so.

@@ -10,7 +10,7 @@ ghost use Rattle.md_report.specs.ItemLines.{IsAllowed};
 ghost use Rattle.md_report.specs.Places.{before_session, at_state, at_items, after_end, closed_place, items_behind, tells_bar, MayCome, next_place};
 ghost use Rattle.md_report.specs.Steps.{state_of};
 ghost use Rattle.md_checker.specs.declared.session_checker.SessionDue.TheVariants.{Head, State as StateDue, Items};
-ghost use Rattle.md_checker.specs.ReportLines.{plain_report_line, HasWellFormedTree};
+ghost use Rattle.md_checker.specs.ReportLines.{plain_report_line};
 ghost use Rattle.md_checker.specs.Standing.{session_place, IsStep, MayTell, Takes};
 
 use crate::cograph_test::is_cograph;
@@ -167,11 +167,10 @@ impl<const W: usize> SessionChecker<W> {
         }
     }
 
-    // Whether the line may come; it is then taken, and else nothing changes. Condition: the line's
-    // tree is well-formed. Never inlined, as above.
+    // Whether the line may come; it is then taken, and else nothing changes. Never inlined, as
+    // above.
     #[inline(never)]
     pub(crate) fn feed(&mut self, alloc: Global, line: &ReportLine<'_>) -> Result<bool, Memory>
-        requires { HasWellFormedTree (plain_report_line line.now) }
         ensures may { IfOk result (λ taken.
             IsTrue taken ↔ MayCome self.old (plain_report_line line.now)) }
         ensures next { IfOk result (λ taken. self.new
@@ -222,8 +221,8 @@ impl<const W: usize> SessionChecker<W> {
 
 // Where the line leads behind the head of a session, the graph being the first state; graph and
 // history are then those behind the line. None where the line may not come; both stay then, and for
-// want of memory. Conditions: the line's tree is well-formed, the names in the script are below
-// `64 * W`, and the history has no item.
+// want of memory. Conditions: the names in the script are below `64 * W`, and the history has no
+// item.
 fn opens<const W: usize>(
     alloc: Global,
     mode: SessionMode,
@@ -233,7 +232,6 @@ fn opens<const W: usize>(
     answered: u64,
     line: &ReportLine<'_>,
 ) -> Result<Option<Step>, Memory>
-    requires line { HasWellFormedTree (plain_report_line line.now) }
     requires names { All (HasItemNamesBelow (64 * W)) script.now }
     requires room { answered ≤ length script.now }
     requires first { history.old.items ≡ [] }
@@ -254,8 +252,8 @@ fn opens<const W: usize>(
     }
 }
 
-// The same in a mode whose reports tell of the first state. Conditions: the line's tree is
-// well-formed, the history has no item, and the mode is not quiet.
+// The same in a mode whose reports tell of the first state. Conditions: the history has no item,
+// and the mode is not quiet.
 fn opens_told<const W: usize>(
     alloc: Global,
     mode: SessionMode,
@@ -265,7 +263,6 @@ fn opens_told<const W: usize>(
     answered: u64,
     line: &ReportLine<'_>,
 ) -> Result<Option<Step>, Memory>
-    requires line { HasWellFormedTree (plain_report_line line.now) }
     requires room { answered ≤ length script.now }
     requires first { history.now.items ≡ [] }
     requires told { mode ≡ Quiet → ⊥ }
@@ -297,8 +294,8 @@ fn answered_behind(script: &Script, answered: u64, line: &ReportLine<'_>) -> u64
     answered
 }
 
-// The same in mode quiet, where a cograph has no line of its own. Conditions: the line's tree is
-// well-formed, the names in the script are below `64 * W`, and the history has no item.
+// The same in mode quiet, where a cograph has no line of its own. Conditions: the names in the
+// script are below `64 * W`, and the history has no item.
 fn opens_quiet<const W: usize>(
     alloc: Global,
     graph: &mut GraphOf<W>,
@@ -307,7 +304,6 @@ fn opens_quiet<const W: usize>(
     answered: u64,
     line: &ReportLine<'_>,
 ) -> Result<Option<Step>, Memory>
-    requires line { HasWellFormedTree (plain_report_line line.now) }
     requires names { All (HasItemNamesBelow (64 * W)) script.now }
     requires room { answered ≤ length script.now }
     requires first { history.old.items ≡ [] }
@@ -335,8 +331,8 @@ fn opens_quiet<const W: usize>(
 
 // Where the line leads at the items, the graph being the one that stands; graph and history are
 // then those behind the line. None where the line may not come; both stay then, and for want of
-// memory. Conditions: the line's tree is well-formed, the names in the script are below `64 * W`,
-// the history fits, and where an item is left the graph may be a state of a session of the mode.
+// memory. Conditions: the names in the script are below `64 * W`, the history fits, and where an
+// item is left the graph may be a state of a session of the mode.
 fn comes<const W: usize>(
     alloc: Global,
     mode: SessionMode,
@@ -346,7 +342,6 @@ fn comes<const W: usize>(
     answered: u64,
     line: &ReportLine<'_>,
 ) -> Result<Option<Step>, Memory>
-    requires line { HasWellFormedTree (plain_report_line line.now) }
     requires names { All (HasItemNamesBelow (64 * W)) script.now }
     requires room { answered ≤ length script.now }
     requires fits { HistoryFits (64 * W) (IsAllowed mode) graph.old history.old.items }

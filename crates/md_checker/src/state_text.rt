@@ -1,9 +1,13 @@
-//! Whether a text is that of the tree of a graph that may be a state of a session. One pass tells
-//! both: no bar of a class is searched for.
-ghost use Rattle.std.specs.Prelude.{◌≢◌, ◌↔◌, ◌≤◌, IfOk, IsTrue};
+//! Whether a text, or a given tree, is that of a graph that may be a state of a session. One pass
+//! tells both: no bar of a class is searched for.
+ghost use Rattle.std.specs.Prelude.{◌≢◌, ◌*◌, ◌↔◌, ◌≤◌, IfOk, IsTrue};
 ghost use Rattle.md_graph.specs.declared.TheConstants.{WORDS};
+ghost use Rattle.md_graph.specs.PlainGraph.{adjacent};
 ghost use Rattle.md_tree.specs.declared.Kind.TheVariants.{Prime};
+ghost use Rattle.md_tree.specs.Plain.{plain_option};
+ghost use Rattle.md_tree.specs.StrongTrees.{IsTree};
 ghost use Rattle.md_bar_tree.specs.Inner.{IsNarrow};
+ghost use Rattle.md_report.specs.ItemLines.{IsAllowed};
 ghost use Rattle.md_checker.specs.States.{HasOneNode, IsStateText};
 
 use crate::text_graph::TextGraph;
@@ -11,7 +15,7 @@ use crate::text_walk::is_text_by_rows;
 use md_bar::Class;
 use md_graph::{GraphOf, Memory, Set};
 use md_report::SessionMode;
-use md_tree::{Kind, Pair};
+use md_tree::{Kind, Pair, Tree, text};
 use std::alloc::Global;
 
 // A graph that a text is compared with, where it may be a state of a session of the mode.
@@ -106,5 +110,26 @@ pub(crate) fn is_word_and_state<const W: usize>(
             is_text_by_rows::<Kind, Pair, StateText<'_, W>, W>(alloc, &compared, behind)
         }
         None => Ok(false),
+    }
+}
+
+// Whether the graph may be a state of a session of the mode, and the tree is that of it. Errors:
+// want of memory.
+pub(crate) fn is_tree_of_state<const W: usize>(
+    alloc: Global,
+    mode: SessionMode,
+    graph: &GraphOf<W>,
+    tree: &Option<Tree>,
+) -> Result<bool, Memory>
+    ensures { IfOk result (λ fit. IsTrue fit ↔ (IsAllowed mode graph.now
+        × IsTree (adjacent graph.now) graph.now.vertices (plain_option tree.now))) }
+{
+    let _vertices = graph.vertices();
+    match tree {
+        Some(_) => {
+            let text = text(alloc, tree)?;
+            is_word_and_state(alloc, mode, graph, b"", &text)
+        }
+        None => Ok(graph.vertices().is_empty()),
     }
 }

@@ -1,17 +1,17 @@
-//! Whether a text is that of the tree of strong modules of a graph. No tree is built: `fits`
-//! decides the same of a tree that is there.
+//! Whether a text, or a given tree, is that of strong modules of a graph. No tree is built.
 ghost use Rattle.std.specs.Prelude.{◌≡◌, ◌↔◌, ◌++◌, true, Some, IfOk, IsTrue};
 ghost use Rattle.md_graph.specs.PlainGraph.{adjacent};
-ghost use Rattle.md_tree.specs.StrongTrees.{IsTreeOf};
+ghost use Rattle.md_tree.specs.Plain.{plain_option};
+ghost use Rattle.md_tree.specs.StrongTrees.{IsTree, IsTreeOf};
 ghost use Rattle.md_tree.specs.Trees.{PlainTree};
 ghost use Rattle.md_tree.specs.TreeTexts.{tree_text};
 ghost use Rattle.md_tree.specs.WellFormed.{IsWellFormed};
 
+use crate::lone_modules::has_trivial_modules_alone;
 use crate::text_graph::TextGraph;
 use crate::text_walk::is_text_by_rows;
-use crate::tree_fit::has_trivial_modules_alone;
 use md_graph::{GraphOf, Memory, Set};
-use md_tree::{Kind, Pair};
+use md_tree::{Kind, Pair, Tree, text};
 use std::alloc::Global;
 
 impl<const W: usize> TextGraph<Kind, Pair, W> for GraphOf<W> {
@@ -47,6 +47,27 @@ impl<const W: usize> TextGraph<Kind, Pair, W> for GraphOf<W> {
 
     fn has_trivial_modules_alone(&self, alloc: Global, names: &Set<W>) -> Result<bool, Memory> {
         has_trivial_modules_alone(alloc, self, names)
+    }
+}
+
+/// Whether the tree is the tree of strong modules of the graph, or there is none and the graph has
+/// no vertex. The tree may be any: it is written, and its text is compared with the graph. Errors:
+/// want of memory.
+pub fn fits<const W: usize>(
+    alloc: Global,
+    graph: &GraphOf<W>,
+    tree: &Option<Tree>,
+) -> Result<bool, Memory>
+    ensures { IfOk result (λ fit. IsTrue fit
+        ↔ IsTree (adjacent graph.now) graph.now.vertices (plain_option tree.now)) }
+{
+    let _vertices = graph.vertices();
+    match tree {
+        Some(_) => {
+            let text = text(alloc, tree)?;
+            is_text_of_tree(alloc, graph, &text)
+        }
+        None => Ok(graph.vertices().is_empty()),
     }
 }
 

@@ -1,7 +1,4 @@
 pub mod DirectedPlaces
 mod DirectedJudged
 mod ArcTests
-mod NodeHeads
-mod DirectedWalks
-mod Recognized
 mod ArcViews

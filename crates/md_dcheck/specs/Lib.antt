@@ -3,5 +3,4 @@ pub mod DirectedLineTexts
 pub mod DueDigraphs
 pub mod DirectedLaws
 pub mod DirectedFaults
-pub mod DirectedFitTests
 pub mod DirectedViews

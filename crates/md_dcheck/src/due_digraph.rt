@@ -1,15 +1,11 @@
 //! Whether a line tells the tree of the directed graph that is due.
 ghost use Rattle.std.specs.Prelude.{◌≡◌, ◌↔◌, IfOk, IsTrue};
 ghost use Rattle.md_dcheck.specs.DirectedReports.{DirectedLine, HasDirectedTree, directed_line_text};
-ghost use Rattle.md_dcheck.specs.DueDigraphs.{HasTreeText};
 
-use crate::digraph_text::is_text_of_tree;
-use crate::directed_fit::well_formed_fits;
+use crate::digraph_text::is_tree_text;
 use md_digraph::DigraphOf;
 use md_digraph6::{DigraphBySize, DirectedRoom};
-use md_dtree::read_directed;
 use md_graph::Memory;
-use md_tree::TreeFault;
 use std::alloc::Global;
 
 // Whether the text is that of the line with the tree of the directed graph in the room. Errors:
@@ -37,26 +33,5 @@ fn is_tree_line<const W: usize>(
     match text.strip_prefix(b"t ") {
         Some(rest) => is_tree_text(alloc, graph, rest),
         None => Ok(false),
-    }
-}
-
-// Whether the text is that of the tree of the directed graph. The text of a right tree is compared
-// as it stands; another one is read. Errors: want of memory.
-fn is_tree_text<const W: usize>(
-    alloc: Global,
-    graph: &DigraphOf<W>,
-    text: &[u8],
-) -> Result<bool, Memory>
-    ensures { IfOk result (λ fit. IsTrue fit ↔ HasTreeText graph.now text.now) }
-{
-    let _vertices = graph.vertices();
-    if is_text_of_tree(alloc, graph, text)? {
-        return Ok(true);
-    }
-    match read_directed(alloc, text) {
-        Ok(tree) => well_formed_fits(alloc, graph, &tree),
-        Err(TreeFault::Syntax { place: _ }) => Ok(false),
-        Err(TreeFault::NotCanonical) => Ok(false),
-        Err(TreeFault::Memory) => Err(Memory),
     }
 }

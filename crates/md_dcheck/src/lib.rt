@@ -5,11 +5,9 @@
 mod digraph_text;
 mod directed_check;
 mod directed_checker;
-mod directed_fit;
 mod due_digraph;
-mod head_rows;
 pub mod laws;
 mod lone_modules;
 
+pub use digraph_text::fits_directed;
 pub use directed_check::check_directed;
-pub use directed_fit::fits_directed;

@@ -19,6 +19,8 @@ mod lines_and_numbers;
 #[cfg(test)]
 mod loads;
 #[cfg(test)]
+mod members;
+#[cfg(test)]
 mod sinks;
 #[cfg(test)]
 mod slow_files;

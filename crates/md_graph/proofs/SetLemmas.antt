@@ -1,13 +1,12 @@
 -- What `contains` answers of each set of names, one way and back, and the orders of sets.
-use Rattle.std.proofs.Common.{◌≡◌, ◌↔◌, ℕ, ◌<◌, ◌+◌, not, arith, List, [], ◌∷◌, ◌++◌, length, get_or, take, Option, Some, None, is_some, IfSome, IfNone, ap₂, Bool, true, false, ◌≢◌, ◌⊎◌, refl, sym, ◌∙◌, ap, subst, inl, inr, true≢false, eqb-true, eq-eqb, ltb, ltb-true, ltb-false, ◌≤◌, nat_eq}
-use Rattle.std.proofs.lemmas.List.{take_more}
+use Rattle.std.proofs.Common.{◌≡◌, ◌↔◌, ℕ, ◌<◌, not, arith, Option, Some, None, is_some, IfSome, IfNone, Bool, true, false, ◌≢◌, ◌⊎◌, refl, sym, ◌∙◌, ap, subst, inl, inr, true≢false, eqb-true, eq-eqb, ltb, ltb-true, ltb-false, ◌≤◌, nat_eq}
 use Rattle.std.proofs.lemmas.Bool.{cases_Bool, true_from_ne_false, false_from_ne_true, or_cases, or_parts, or_left, or_right, or_from, and_parts, and_cases, and_from, and_left, and_right, not-true, not-false, not_from_false, not_from_true}
 -- two numbers are equal or not
 pub use Rattle.std.proofs.lemmas.Bool.{cases_eq as same_name}
 use Rattle.std.specs.FinSet.{contains, empty, insert, remove, retain, union, intersection, difference, contains-empty, contains-insert, contains-remove, contains-retain, contains-union, contains-intersection, contains-difference, same_set, nat_cmp-IsAntisymmetric}
 use Rattle.std.specs.Cmp.{both_ways, nat_cmp_total, unsigned_tied}
 use Rattle.std.specs.Ordering.{nat_cmp, eq_by_cmp}
-use Rattle.md_graph.specs.Sets.{NameSet, Has, Lacks, Within, Disjoint, only_name, union_all}
+use Rattle.md_graph.specs.Sets.{NameSet, Has, Lacks, Within, Disjoint, only_name}
 use Rattle.md_graph.specs.NameSet.{IsLeastFrom, NoneFrom, symmetric_difference}
 
 pub clash : {A : Type 0} {b : Bool} → b ≡ true → b ≡ false → A
@@ -301,35 +300,6 @@ value_told row mark false y is here = union_right (difference row mark) (differe
 
 pub meet_inside : (part live vertices within : NameSet) → live ≡ vertices → within ≡ intersection part live → Within within vertices
 meet_inside part live vertices within same is y h = Has-along _ _ same y (of_meet part live y (Has-along _ _ is y h)).1
-
--- ---- the union of the sets of a list
-
-pub union-push : (xs : List NameSet) (x : NameSet) → union_all (xs ++ x ∷ []) ≡ union (union_all xs) x
-union-push [] x = same_members (union x empty) (union empty x)
-    (λ y h. elim (of_union x empty y h) [ inl a ↦ union_right empty x y a | inr none ↦ clash none (empty_lacks y) ])
-    (λ y h. elim (of_union empty x y h) [ inl none ↦ clash none (empty_lacks y) | inr a ↦ union_left x empty y a ])
-union-push (s ∷ xs) x =
-    ap (union s) (union-push xs x)
-    ∙ same_members (union s (union (union_all xs) x)) (union (union s (union_all xs)) x)
-    (λ y h. elim (of_union s (union (union_all xs) x) y h) [
-      | inl a ↦ union_left (union s (union_all xs)) x y (union_left s (union_all xs) y a)
-      | inr b ↦ elim (of_union (union_all xs) x y b) [
-        | inl c ↦ union_left (union s (union_all xs)) x y (union_right s (union_all xs) y c)
-        | inr d ↦ union_right (union s (union_all xs)) x y d
-      ]
-    ])
-    (λ y h. elim (of_union (union s (union_all xs)) x y h) [
-      | inl a ↦ elim (of_union s (union_all xs) y a) [
-        | inl b ↦ union_left s (union (union_all xs) x) y b
-        | inr c ↦ union_right s (union (union_all xs) x) y (union_left (union_all xs) x y c)
-      ]
-      | inr d ↦ union_right s (union (union_all xs) x) y (union_right (union_all xs) x y d)
-    ])
-
-pub union_more : (xs : List NameSet) (i : ℕ) (d all new one : NameSet) → i < length xs → all ≡ union_all (take i xs) → one ≡ get_or xs i d → new ≡ union all one →
-    new ≡ union_all (take (i + 1) xs)
-union_more xs i d all new one below so is made =
-    made ∙ ap₂ union so is ∙ sym (union-push (take i xs) (get_or xs i d)) ∙ ap union_all (sym (take_more xs i d below))
 
 -- ---- sets that agree on others
 

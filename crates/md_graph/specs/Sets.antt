@@ -1,7 +1,7 @@
 -- Finite sets of names, and the words for them. Two sets with the same members are equal.
 -- Source: finite sets, as in any textbook.
-use Rattle.std.specs.Prelude.{◌≡◌, ℕ, ◌≢◌, true, false, List, [], ◌∷◌}
-use Rattle.std.specs.FinSet.{FinSet, contains, empty, insert, union}
+use Rattle.std.specs.Prelude.{◌≡◌, ℕ, ◌≢◌, true, false}
+use Rattle.std.specs.FinSet.{FinSet, contains, empty, insert}
 use Rattle.std.specs.Ordering.{nat_cmp}
 
 -- a finite set of names
@@ -35,11 +35,6 @@ HasTwo s = (x : ℕ) × (y : ℕ) × Has s x × Has s y × (x ≢ y)
 -- the set with one member
 abbrev pub only_name : ℕ → NameSet
 only_name v = insert empty v
-
--- the union of the sets of a list
-abbrev pub union_all : List NameSet → NameSet
-union_all [] = empty
-union_all (s ∷ rest) = union s (union_all rest)
 
 -- t holds s and is another set
 abbrev pub Proper : NameSet → NameSet → Type 0

@@ -12,7 +12,7 @@ use Rattle.md_text.proofs.Lists.{In, of_append, of_contains}
 use Rattle.md_tree.specs.declared.Kind.{Kind}
 use Rattle.md_tree.specs.declared.Pair.{Pair}
 use Rattle.md_tree.specs.Trees.{PlainTree, leaf, node, PlainTrees, no_tree, one_more, names, names_below, node_sets, node_sets_below, EachNode, EachNodeBelow}
-use Rattle.md_tree.specs.NodeLists.{nodes_backward, row_nodes_backward}
+use Rattle.md_local.specs.NodeLists.{nodes_backward, row_nodes_backward}
 use Rattle.md_tree.specs.StrongTrees.{IsTreeOf}
 use Rattle.md_tree.specs.WellFormed.{AreDisjoint, IsCanonicalNode}
 use Rattle.md_tree.proofs.Nodes.{set_inside, sets_inside}

@@ -3,7 +3,7 @@ use Rattle.std.proofs.Common.{◌≡◌, ◌⊎◌, List, [], ◌∷◌, ◌++�
 use Rattle.std.proofs.lemmas.List.{append_cancel_left}
 use Rattle.md_tree.specs.Trees.{PlainTreeOf, leaf, node, PlainTreesOf, no_tree, one_more, row}
 use Rattle.md_tree.specs.Parts.{below_node}
-use Rattle.md_tree.specs.NodeLists.{nodes_backward, row_nodes_backward}
+use Rattle.md_local.specs.NodeLists.{nodes_backward, row_nodes_backward}
 use Rattle.md_tree.proofs.Folding.{row_listed}
 
 -- where an element of two lists in a row stands

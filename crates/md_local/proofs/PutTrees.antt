@@ -15,7 +15,7 @@ use Rattle.md_tree.specs.declared.TreeOf.{TreeOf}
 use Rattle.md_tree.specs.declared.parts.PartOf.{PartOf}
 use Rattle.md_tree.specs.declared.parts.PartOf.TheVariants.{Node as NodePart}
 use Rattle.md_tree.specs.Trees.{PlainTree, leaf, node, PlainTrees, no_tree, one_more, names, names_below, count, row, EachNode, EachNodeBelow}
-use Rattle.md_tree.specs.NodeLists.{nodes_backward, row_nodes_backward}
+use Rattle.md_local.specs.NodeLists.{nodes_backward, row_nodes_backward}
 use Rattle.md_tree.specs.Parts.{PlainPart, name, inner, plain_part, part_of, parts_of, parts_backward, listed, below_node}
 use Rattle.md_tree.specs.Stacks.{HasChildrenOf}
 use Rattle.md_tree.specs.Plain.{plain}

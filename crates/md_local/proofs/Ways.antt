@@ -10,7 +10,7 @@ use Rattle.md_tree.specs.declared.ChildrenOf.{ChildrenOf, roll-ChildrenOf}
 use Rattle.md_tree.specs.declared.PairsOf.{PairsOf}
 use Rattle.md_tree.specs.declared.TreeOf.{TreeOf, Leaf, Node}
 use Rattle.md_tree.specs.Trees.{PlainTree, leaf, node, row}
-use Rattle.md_tree.specs.NodeLists.{nodes_backward, row_nodes_backward}
+use Rattle.md_local.specs.NodeLists.{nodes_backward, row_nodes_backward}
 use Rattle.md_tree.specs.Parts.{listed, below_node}
 use Rattle.md_tree.specs.Plain.{plain, trees_of}
 use Rattle.md_tree.proofs.Plain.{plain_is_leaf, plain_is_node, plain-node}

@@ -14,7 +14,7 @@ use Rattle.md_tree.specs.declared.Kind.TheVariants.{Parallel, Series}
 use Rattle.md_tree.specs.declared.Pair.{Pair}
 use Rattle.md_tree.specs.Trees.{PlainTree, leaf, node, PlainTrees, no_tree, one_more, names, names_below, row}
 use Rattle.md_tree.specs.Heads.{head, heads}
-use Rattle.md_tree.specs.NodeLists.{nodes_backward}
+use Rattle.md_local.specs.NodeLists.{nodes_backward}
 use Rattle.md_tree.specs.Parts.{below_node}
 use Rattle.md_tree.specs.Plain.{plain}
 use Rattle.md_tree.specs.StrongTrees.{IsTreeOf}

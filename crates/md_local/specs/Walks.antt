@@ -7,7 +7,7 @@ use Rattle.md_tree.specs.declared.Kind.{Kind}
 use Rattle.md_tree.specs.declared.Pair.{Pair}
 use Rattle.md_tree.specs.declared.TreeOf.{TreeOf}
 use Rattle.md_tree.specs.Trees.{PlainTree, row}
-use Rattle.md_tree.specs.NodeLists.{row_nodes_backward}
+use Rattle.md_local.specs.NodeLists.{row_nodes_backward}
 use Rattle.md_tree.specs.Parts.{below_node}
 use Rattle.md_tree.specs.Plain.{plain}
 use Rattle.md_local.specs.declared.walking.Open.{Open}

@@ -1,8 +1,8 @@
 //! Sets of names in little room, as the classes of a partition are kept: most are names alone.
 ghost use Rattle.std.specs.Prelude.{◌≡◌, ◌*◌, ℕ, ◌<◌, ◌≤◌, IfOk, OnOk, OnErr, IfSome, IfNone, IsTrue};
-ghost use Rattle.std.specs.FinSet.{len, empty, insert, union};
+ghost use Rattle.std.specs.FinSet.{len, empty, insert};
 ghost use Rattle.md_graph.specs.NameSet.{IsLeastFrom, NoneFrom, block};
-ghost use Rattle.md_graph.specs.Sets.{HasSome, HasTwo, only_name, union_all};
+ghost use Rattle.md_graph.specs.Sets.{HasSome, HasTwo, only_name};
 ghost use Rattle.md_modules.specs.Blocks.{held_names, IsName};
 ghost use Rattle.md_modules.specs.Classes.{IsDivided};
 
@@ -175,29 +175,6 @@ impl<const W: usize> CompactSet<W> {
         }
         Ok(())
     }
-
-    /// Takes the names in to a set.
-    pub fn add_to(&self, all: &mut Set<W>)
-        ensures changed { all.new ≡ union all.old self.now }
-    {
-        match &self.held {
-            Held::One(name) => all.insert(*name),
-            Held::Low(bits) => all.insert_block(0, *bits),
-            Held::Several(names) => all.union_with(names),
-        }
-    }
-}
-
-/// The union of sets. Condition: `W` is at most `WORDS`.
-pub fn union_of<const W: usize>(sets: &[CompactSet<W>]) -> Set<W>
-    requires limit { W ≤ WORDS }
-    ensures union { result ≡ union_all sets.now }
-{
-    let mut all = Set::none();
-    for set in sets {
-        set.add_to(&mut all);
-    }
-    all
 }
 
 // The names below 64 whose bits are 1.

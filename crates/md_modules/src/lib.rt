@@ -10,7 +10,7 @@ mod paths_with_both;
 mod refinement;
 mod shared;
 
-pub use compact_set::{CompactSet, union_of};
+pub use compact_set::CompactSet;
 pub use component_search::{co_component, co_connected, component, connected};
 pub use induced_paths::{P4, find_p4, find_p4_with, is_p4};
 pub use module_search::{back, closure, closure_in, grow, is_module};

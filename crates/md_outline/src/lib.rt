@@ -12,6 +12,3 @@ pub use outline::OutlinePart;
 pub use outline_parts::{has_no_prime_part, tree_outline};
 pub use pair_space::{HeadPlaces, PairSpace};
 pub use writer::{RowSpace, push_text_by_rows};
-
-#[cfg(test)]
-mod tests;

@@ -21,9 +21,6 @@ use md_orient::{Verdict, orient};
 use md_report::GraphMode;
 use std::alloc::Global;
 
-#[cfg(test)]
-mod tests;
-
 /// A forcing chain of the graph such that none has fewer arcs; `None` exactly where it has no
 /// forcing chain. Errors: want of memory.
 pub fn shortest_chain<const W: usize>(

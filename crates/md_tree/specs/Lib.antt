@@ -12,7 +12,6 @@ pub mod TreeTexts
 pub mod Laws
 pub mod Positions
 pub mod Parts
-pub mod NodeLists
 pub mod Stacks
 pub mod OpenNodes
 pub mod Grammar

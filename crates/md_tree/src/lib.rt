@@ -22,7 +22,7 @@ mod writer;
 pub use builder::{Opened, ascends};
 pub use cotree::{has_no_prime, is_cotree};
 pub use grammar::split_letter;
-pub use parts::{Part, PartOf, build, nodes_of};
+pub use parts::{Part, PartOf, build};
 pub use reader::{TreeFault, read_tree, read_tree_of};
 pub use spelling::{Lettered, Paired};
 pub use tree_graph::graph_of;

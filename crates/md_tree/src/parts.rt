@@ -1,9 +1,8 @@
 //! The parts of a tree, and the tree that is put together from them.
-ghost use Rattle.std.specs.Prelude.{◌≡◌, [], ◌∷◌, ◌++◌, map, IfOk};
+ghost use Rattle.std.specs.Prelude.{◌≡◌, map, IfOk};
 ghost use Rattle.md_tree.specs.Trees.{PlainTreeOf};
 ghost use Rattle.md_tree.specs.Plain.{plain};
-ghost use Rattle.md_tree.specs.Parts.{plain_part, part_of, parts_of, plain_at, below_node};
-ghost use Rattle.md_tree.specs.NodeLists.{nodes_backward};
+ghost use Rattle.md_tree.specs.Parts.{plain_part, parts_of};
 ghost use Rattle.md_tree.specs.Stacks.{with_part, HasChildrenOf};
 
 use crate::{ChildrenOf, Kind, Pair, PairsOf, TreeOf};
@@ -56,43 +55,6 @@ fn put_part<K: Drop, P: Drop>(
             let below = stack.len() - number as usize;
             let list = stack.split_off(below)?;
             stack.push(TreeOf::Node(kind, ChildrenOf { list }, pairs))?;
-        }
-    }
-    Ok(())
-}
-
-/// The nodes of a tree: each before its children, and these from the last to the first. No call
-/// nests as deep as the tree. Errors: want of memory.
-pub fn nodes_of<K: Drop, P: Drop>(
-    alloc: Global,
-    tree: &TreeOf<K, P>,
-) -> Result<Vec<&TreeOf<K, P>>, Memory>
-    ensures nodes { IfOk result (λ list. map plain_at list.items
-        ≡ nodes_backward (plain tree.now)) }
-    ensures parts { IfOk result (λ list. map (λ r. part_of (plain_at r)) list.items
-        ≡ parts_of (plain tree.now)) }
-{
-    let mut nodes = Vec::new(alloc);
-    let mut waiting = Vec::new(alloc);
-    waiting.push(tree)?;
-    while let Some(node) = waiting.pop() {
-        nodes.push(node)?;
-        push_children(node, &mut waiting)?;
-    }
-    Ok(nodes)
-}
-
-// Appends the children of a node.
-fn push_children<'a, K: Drop, P: Drop>(
-    node: &'a TreeOf<K, P>,
-    waiting: &mut Vec<&'a TreeOf<K, P>>,
-) -> Result<(), Memory>
-    ensures { IfOk result (λ _. map plain_at waiting.new.items
-        ≡ map plain_at waiting.old.items ++ below_node (plain node.now)) }
-{
-    if let TreeOf::Node(_, children, _) = node {
-        for child in &children.list {
-            waiting.push(child)?;
         }
     }
     Ok(())

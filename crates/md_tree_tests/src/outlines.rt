@@ -1,8 +1,10 @@
 //! The outline of a tree, read off the tree.
-use md_graph::{Memory, NAMES};
-use md_outline::OutlinePart;
+use md_graph::{Graph, Memory, NAMES};
+use md_outline::{OutlinePart, RowSpace, push_text_by_rows};
 use md_tree::{Kind, Tree};
 use std::alloc::Global;
+use std::process::Abort;
+use std::test::Fail;
 
 // A node of a tree comes behind the parts so far, and its children wait, the first one at the end.
 fn put_node<'a>(
@@ -40,4 +42,19 @@ pub(crate) fn outline_by_tree(
         put_node(node, &mut parts, &mut waiting)?;
     }
     Ok(parts)
+}
+
+// The text where there is no tree.
+fn check_empty(rt: &impl Abort, alloc: Global) -> Result<(), Memory> {
+    let graph = Graph::new(alloc)?;
+    let mut text = Vec::new(alloc);
+    push_text_by_rows(&mut text, &[], &graph, &mut RowSpace::new(alloc))?;
+    assert_eq!(rt; text.as_slice(), b"empty".as_slice());
+    Ok(())
+}
+
+#[test]
+fn spells_no_tree(rt: HostRuntime) -> Result<(), Fail> {
+    assert!(&rt; check_empty(&rt, rt.alloc()).is_ok());
+    Ok(())
 }

@@ -1,11 +1,19 @@
-use Rattle.md_checker.proofs.Judged.{told_and_any}
 use Rattle.md_checker.proofs.item_answers.is_led_line.Goals as goal
 
 pub returns-in-Edit : goal.returns-in-Edit
-returns-in-Edit g c = rw c.in-Edit.is (told_and_any c.is_applied_tree.result _ c.is_applied_tree.ensures)
+returns-in-Edit g c =
+    let is = c.in-Edit.is in
+    let told = c.is_applied_state.ensures in
+    rw is (rw is at told)
 
 pub returns-in-Cograph : goal.returns-in-Cograph
-returns-in-Cograph g c = rw c.in-Cograph.is c.is_applied_cotree.ensures
+returns-in-Cograph g c =
+    let is = c.in-Cograph.is in
+    let told = c.is_applied_state-in-Cograph.ensures in
+    rw is (rw is at told)
 
 pub returns-in-Of : goal.returns-in-Of
-returns-in-Of g c = rw c.in-Of.is c.is_applied_tree_of_class.ensures
+returns-in-Of g c =
+    let is = c.in-Of.is in
+    let told = c.is_applied_state-in-Of.ensures in
+    rw is (rw is at told)

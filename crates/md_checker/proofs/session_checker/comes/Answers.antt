@@ -31,10 +31,7 @@ answers_item-requires g c =
       search rules,
       (
         search rules,
-        (
-          c.requires.line,
-          (holds_at (HasItemNamesBelow (64 * g.row.W)) c.args.script.now c.args.answered c.get-item.result.now c.get-item.ensures.item c.requires.names, (c.requires.fits, allowed)),
-        ),
+        (holds_at (HasItemNamesBelow (64 * g.row.W)) c.args.script.now c.args.answered c.get-item.result.now c.get-item.ensures.item c.requires.names, (c.requires.fits, allowed)),
       ),
     )
 

@@ -1,13 +1,9 @@
 use Rattle.std.proofs.Common.{sym, ◌∙◌, ap, subst}
 use Rattle.md_report.specs.Laws.{IsSound}
 use Rattle.md_report.specs.Lines.{line_text}
-use Rattle.md_checker.specs.ReportLines.{plain_report_line, HasWellFormedTree}
-use Rattle.md_checker.proofs.LineTrees.{tree_of_class_line}
+use Rattle.md_checker.specs.ReportLines.{plain_report_line}
 use Rattle.md_checker.proofs.Moves.{text_may, text_next, none_may}
 use Rattle.md_checker.proofs.checker.Checker.feed_class.Goals as goal
-
-pub feed_line-requires : goal.feed_line-requires
-feed_line-requires c = subst HasWellFormedTree (sym c.of_class.ensures) (tree_of_class_line c.in-Ok.line c.in-Ok.ensures.0)
 
 pub returns-in-Ok-clause-may : goal.returns-in-Ok-clause-may
 returns-in-Ok-clause-may c =
