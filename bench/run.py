@@ -4,7 +4,7 @@
     python3 bench/run.py                 builds the program and measures it
     python3 bench/run.py --bin PATH      measures a program that is built already
     python3 bench/run.py --peer PATH     measures another program with the same commands beside it
-    python3 bench/run.py --only many     measures the cases whose name holds a word
+    python3 bench/run.py --only dense    measures the cases whose name holds a word
     python3 bench/run.py --checks        measures `check` over the reports of the same cases, beside the reports
     python3 bench/run.py --sizes         seconds and peak memory by command at two sizes, sparse and dense, in one table
     python3 bench/run.py --largest       the same over the largest graphs, of 16,384 vertices
