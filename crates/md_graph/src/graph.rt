@@ -49,7 +49,7 @@ impl<const W: usize> Model for GraphOf<W> {
 impl<const W: usize> GraphOf<W> {
     /// The graph without vertices. Condition: `W` is at most `WORDS`. Errors: want of memory.
     pub fn new(alloc: Global) -> Result<GraphOf<W>, Memory>
-        requires { W ≤ WORDS }
+        requires limit { W ≤ WORDS }
         ensures made { IfOk result (λ g. g ≡ empty_graph) }
     {
         Ok(GraphOf {
@@ -76,7 +76,7 @@ impl<const W: usize> GraphOf<W> {
 
     /// The number of neighbours of `v`. Condition: it is a vertex.
     pub fn degree(&self, v: u32) -> u32
-        requires { Has self.now.vertices v }
+        requires vertex { Has self.now.vertices v }
         ensures value { result ≡ set.len (neighbours self.now v) }
     {
         let row = &self.rows[v as usize];
@@ -136,7 +136,7 @@ impl<const W: usize> GraphOf<W> {
 
     /// The neighbours of `v`. Condition: it is a vertex.
     pub fn neighbours(&self, v: u32) -> &Set<W>
-        requires { Has self.now.vertices v }
+        requires vertex { Has self.now.vertices v }
         ensures set { result.now ≡ neighbours self.now v }
         ensures graph { IsGraph self.now }
     {
@@ -146,7 +146,7 @@ impl<const W: usize> GraphOf<W> {
     /// The neighbours of `v`: none for a name that is no vertex. Condition: `v` is a name below
     /// `64 * W`.
     pub fn row(&self, v: u32) -> &Set<W>
-        requires { v < 64 * W }
+        requires name { v < 64 * W }
         ensures set { result.now ≡ neighbours self.now v }
         ensures graph { IsGraph self.now }
     {
@@ -223,7 +223,7 @@ impl<const W: usize> GraphOf<W> {
 
     /// Leaves out the vertex `v` and the edges at it. Condition: it is a vertex.
     pub fn remove_vertex(&mut self, v: u32)
-        requires { Has self.old.vertices v }
+        requires vertex { Has self.old.vertices v }
         ensures changed { self.new ≡ without_vertex self.old v }
     {
         let others = self.rows[v as usize].copy();
@@ -234,7 +234,7 @@ impl<const W: usize> GraphOf<W> {
 
     /// Leaves out the edge between `u` and `v`. Condition: it is there.
     pub fn remove_edge(&mut self, u: u32, v: u32)
-        requires { adjacent self.old u v ≡ true }
+        requires edge { adjacent self.old u v ≡ true }
         ensures changed { self.new ≡ without_edge self.old u v }
     {
         self.rows[u as usize].remove(v);
@@ -302,7 +302,7 @@ impl<const W: usize> GraphOf<W> {
     /// The neighbours of `v` in the complement: none for a name that is no vertex. Condition: `v`
     /// is a name below `64 * W`.
     pub fn complement_row(&self, v: u32) -> Set<W>
-        requires { v < 64 * W }
+        requires name { v < 64 * W }
         ensures value { result ≡ neighbours (complement self.now) v }
     {
         if !self.live.has(v) {
@@ -395,7 +395,7 @@ fn join_row<const W: usize>(rows: &mut [Set<W>], at: usize, first: u32, bits: u6
 
 /// As many rows without members. Condition: `W` is at most `WORDS`. Errors: want of memory.
 pub fn empty_rows<const W: usize>(alloc: Global, size: u32) -> Result<Vec<Set<W>>, Memory>
-    requires { W ≤ WORDS }
+    requires limit { W ≤ WORDS }
     ensures size { IfOk result (λ rows. length rows.items ≡ size) }
     ensures none { IfOk result (λ rows. (v : ℕ) → row_of rows.items v ≡ set.empty) }
 {

@@ -51,7 +51,7 @@ impl<const W: usize> Model for Set<W> {
 impl<const W: usize> Set<W> {
     /// The empty set. Condition: `W` is at most `WORDS`.
     pub fn none() -> Set<W>
-        requires { W ≤ WORDS }
+        requires limit { W ≤ WORDS }
         ensures value { result ≡ set.empty }
     {
         Set {
@@ -93,7 +93,7 @@ impl<const W: usize> Set<W> {
 
     /// Takes `v` in. Condition: it is a name below `64 * W`.
     pub fn insert(&mut self, v: u32)
-        requires { v < 64 * W }
+        requires name { v < 64 * W }
         ensures changed { self.new ≡ set.insert self.old v }
     {
         let word = v as usize / 64;
@@ -106,7 +106,7 @@ impl<const W: usize> Set<W> {
     /// Takes in the `count` names from `from` on, 64 at once. Condition: all are names below
     /// `64 * W`.
     pub fn insert_range(&mut self, from: u32, count: u32)
-        requires { from + count ≤ 64 * W }
+        requires names { from + count ≤ 64 * W }
         ensures changed { self.new ≡ set.union self.old (range from count) }
     {
         self.within_limit();
@@ -118,7 +118,7 @@ impl<const W: usize> Set<W> {
 
     /// Leaves `v` out. Condition: it is a name below `64 * W`.
     pub fn remove(&mut self, v: u32)
-        requires { v < 64 * W }
+        requires name { v < 64 * W }
         ensures changed { self.new ≡ set.remove self.old v }
     {
         self.words[v as usize / 64] &= !(1 << (v % 64));

@@ -398,7 +398,7 @@ pub(crate) fn from_place(word: u64, place: u32) -> u64
 /// The place of the lowest 1 of `bits`, and `bits` without it: for writers that take 64 names at
 /// once by `Names::block`. Condition: there is a 1.
 pub fn lowest(bits: u64) -> (u32, u64)
-    requires { bits ≢ 0 }
+    requires some { bits ≢ 0 }
     ensures place { result.0 < 64 }
     ensures rest { (first : ℕ)
         → bits_between first bits 64 ≡ (first + result.0) ∷ bits_between first result.1 64 }

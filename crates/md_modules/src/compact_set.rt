@@ -161,7 +161,7 @@ impl<const W: usize> CompactSet<W> {
     /// Takes `name` in. Condition: it is below `64 * W`. Errors: want of memory; the set stays as
     /// it was then.
     pub fn insert(&mut self, alloc: Global, name: u32) -> Result<(), Memory>
-        requires { name < 64 * W }
+        requires name { name < 64 * W }
         ensures taken { OnOk result (self.new ≡ insert self.old name) }
         ensures stays { OnErr result (self.new ≡ self.old) }
     {
@@ -205,7 +205,7 @@ fn word_of<const W: usize>(names: &Set<W>) -> u64
     requires { W ≡ 1 }
     ensures { block 0 result ≡ names.now }
 {
-    let _below = names.members();
+    let _members = names.members();
     names.block(0)
 }
 
@@ -254,7 +254,7 @@ fn held_alone<const W: usize>(names: &Set<W>) -> Option<Held<W>>
     ensures names { IfSome result (λ held. held_names W held ≡ names.now) }
     ensures name { IfSome result (IsName W) }
 {
-    let _below = names.members();
+    let _members = names.members();
     if let Some(name) = names.only_member() {
         return Some(Held::One(name));
     }

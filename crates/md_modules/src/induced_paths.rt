@@ -36,7 +36,7 @@ pub fn is_p4<const W: usize>(graph: &GraphOf<W>, p: &P4) -> bool
 /// the smaller side, those that `x` sees or the others, and of the other side for each in a part
 /// that one of the smaller side meets. Condition: `x` is a vertex.
 pub fn find_p4_with<const W: usize>(graph: &GraphOf<W>, x: u32) -> Option<P4>
-    requires { Has graph.now.vertices x }
+    requires vertex { Has graph.now.vertices x }
     ensures found { IfSome result (λ p.
         IsInducedPathWith (adjacent graph.now) graph.now.vertices x p.a p.b p.c p.d) }
     ensures none { IfNone result ((a b c d : ℕ)

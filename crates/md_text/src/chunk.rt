@@ -61,7 +61,7 @@ impl Chunk {
     /// are written.
     #[inline]
     pub fn put_both(&mut self, first: Piece, second: Piece)
-        requires { length self.old + 16 ≤ CHUNK_SIZE }
+        requires room { length self.old + 16 ≤ CHUNK_SIZE }
         ensures text { self.new ≡ (self.old ++ piece_text first) ++ piece_text second }
         ensures within { length self.new ≤ length self.old + 16 }
     {

@@ -18,7 +18,7 @@ const LANES: usize = 16;
 /// The first line of a text, without the byte 10 that ends it, and what stands behind that byte.
 /// The last line may lack it. (POSIX's text lines.)
 pub fn split_line(text: &[u8]) -> (&[u8], &[u8])
-    requires { 0 < length text.now }
+    requires some { 0 < length text.now }
     ensures cut { lines text.now ≡ result.0.now ∷ lines result.1.now }
     ensures before { result.0.now ≡ before_first is_feed text.now }
     ensures after { result.1.now ≡ after_first is_feed text.now }

@@ -60,7 +60,7 @@ pub fn push_number(text: &mut Vec<u8>, n: u64) -> Result<(), AllocError>
 /// the digits, of which a number below `10^k` has at most `k`.
 #[inline]
 pub fn push_decimal(text: &mut Vec<u8>, n: u64)
-    requires { vec_len text.old + length (decimal n) ≤ vec_capacity text.old }
+    requires room { vec_len text.old + length (decimal n) ≤ vec_capacity text.old }
     ensures items { text.new.items ≡ text.old.items ++ decimal n }
     ensures len { vec_len text.new ≡ vec_len text.old + length (decimal n) }
     ensures capacity { vec_capacity text.new ≡ vec_capacity text.old }

@@ -40,7 +40,7 @@ impl Numerals {
     /// most five digits. Errors: want of memory; nothing then changes.
     #[inline]
     pub fn spell(&mut self, count: u32) -> Result<(), AllocError>
-        requires { count ≤ 10 ^ 5 }
+        requires few { count ≤ 10 ^ 5 }
         ensures there { OnOk result (count ≤ length self.new) }
         ensures no_more { OnOk result (length self.new ≡ max count (length self.old)) }
         ensures stays { OnErr result (self.new ≡ self.old) }

@@ -7,7 +7,7 @@ use crate::piece::Piece;
 
 /// The digits of a number of at most five digits.
 pub fn digits_piece(n: u32) -> Piece
-    requires { n < 10 ^ 5 }
+    requires few { n < 10 ^ 5 }
     ensures text { piece_text result ≡ decimal n }
     ensures short { length (piece_text result) ≤ 5 }
 {
@@ -18,7 +18,7 @@ pub fn digits_piece(n: u32) -> Piece
 
 /// The digits of a number of at most five digits, and the byte `end`.
 pub fn number_piece(n: u32, end: u8) -> Piece
-    requires { n < 10 ^ 5 }
+    requires few { n < 10 ^ 5 }
     ensures text { piece_text result ≡ decimal n ++ end ∷ [] }
     ensures short { length (piece_text result) ≤ 6 }
 {
@@ -33,7 +33,7 @@ pub fn number_piece(n: u32, end: u8) -> Piece
 
 /// The byte `first`, and a piece of at most seven bytes behind it.
 pub fn piece_behind(first: u8, piece: Piece) -> Piece
-    requires { length (piece_text piece) ≤ 7 }
+    requires short { length (piece_text piece) ≤ 7 }
     ensures text { piece_text result ≡ first ∷ piece_text piece }
     ensures count { length (piece_text result) ≡ length (piece_text piece) + 1 }
 {

@@ -97,7 +97,7 @@ impl<K: Drop, P: Drop> ChildrenOf<K, P> {
 
     /// The child at a position, counted from 0.
     pub fn get(&self, i: u64) -> &TreeOf<K, P>
-        requires { i < length (trees_of self.now) }
+        requires place { i < length (trees_of self.now) }
         ensures value { result.now ≡ slice_index_or (trees_of self.now) i result.now }
     {
         &self.list[i as usize]
@@ -114,7 +114,7 @@ impl<P: Drop> PairsOf<P> {
 
     /// The pair at a position, counted from 0.
     pub fn get(&self, i: u64) -> &P
-        requires { i < vec_len self.now.list }
+        requires place { i < vec_len self.now.list }
         ensures value { result.now ≡ slice_index_or self.now.list.items i result.now }
     {
         &self.list[i as usize]

@@ -26,7 +26,7 @@ pub fn build<K: Drop, P: Drop>(
     alloc: Global,
     mut parts: Vec<PartOf<K, P>>,
 ) -> Result<TreeOf<K, P>, Memory>
-    requires { (t : PlainTreeOf K P) × (map plain_part parts.items ≡ parts_of t) }
+    requires parts { (t : PlainTreeOf K P) × (map plain_part parts.items ≡ parts_of t) }
     ensures tree { IfOk result (λ tree. (t : PlainTreeOf K P)
         → map plain_part parts.items ≡ parts_of t → plain tree ≡ t) }
 {

@@ -54,7 +54,7 @@ pub fn read_tree_of<K: Lettered, P: Paired, const W: usize>(
     alloc: Global,
     bytes: &[u8],
 ) -> Result<Option<TreeOf<K, P>>, TreeFault>
-    requires { W ≤ WORDS }
+    requires limit { W ≤ WORDS }
     ensures reading { IsTreeReadingBelow (spelling K.rules P.rules) (64 * W) bytes.now result }
 {
     if bytes == b"empty".as_slice() {

@@ -23,7 +23,7 @@ overflow_add-place g c =
 
 pub number_piece-requires : goal.number_piece-requires
 number_piece-requires g c =
-    place_small c.args.graph.now.vertices _ _ _ _ (next_up c.args.graph.now.vertices _ c.loop-v.place _ c.in-Some.v _ c.loop-v.invariant.coming c.in-Some.ensures.steps)
+    record { few = place_small c.args.graph.now.vertices _ _ _ _ (next_up c.args.graph.now.vertices _ c.loop-v.place _ c.in-Some.v _ c.loop-v.invariant.coming c.in-Some.ensures.steps) }
 
 pub fill_up-requires : goal.fill_up-requires
 fill_up-requires g c = (next_up c.args.graph.now.vertices _ c.loop-v.place _ c.in-Some.v _ c.loop-v.invariant.coming c.in-Some.ensures.steps).item.above

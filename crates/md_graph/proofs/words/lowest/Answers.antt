@@ -7,5 +7,5 @@ use Rattle.md_graph.proofs.words.lowest.Goals as goal
 pub returns : goal.returns
 returns c = record {
   place = (bit_at-trailing_zeros w64 c.args.bits (omega arith) c.ranges.bits.fits).0;
-  rest = λ first. lowest_of_word c.args.bits first c.ranges.bits.fits c.requires;
+  rest = λ first. lowest_of_word c.args.bits first c.ranges.bits.fits c.requires.some;
 }

@@ -4,4 +4,4 @@ use Rattle.md_modules.proofs.compact_set.word_of.Goals as goal
 
 pub returns : goal.returns
 returns g c =
-    low_block c.args.names.now c.block.result c.block.ensures.bits (λ w h. let below = c.members-below.ensures.below w h in let one = c.requires in omega arith)
+    low_block c.args.names.now c.block.result c.block.ensures.bits (λ w h. let below = c.members-members.ensures.below w h in let one = c.requires in omega arith)

@@ -3,7 +3,7 @@ use Rattle.md_modules.proofs.PathSearch.{near_side, far_side}
 use Rattle.md_modules.proofs.induced_paths.find_p4_with.Goals as goal
 
 pub row-near-requires : goal.row-near-requires
-row-near-requires g c = (search rules, (search rules, c.vertices-vertices.ensures.below c.args.x c.requires))
+row-near-requires g c = (search rules, (search rules, c.vertices-vertices.ensures.below c.args.x c.requires.vertex))
 
 pub path_by_sides-requires : goal.path_by_sides-requires
 path_by_sides-requires g c = (

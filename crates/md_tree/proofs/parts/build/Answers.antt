@@ -9,7 +9,7 @@ use Rattle.md_tree.proofs.parts.build.Goals as goal
 pub loop-part-init : goal.loop-part-init
 loop-part-init g c =
     subst (IsFolding (map plain_part c.args.parts.items) (map plain_part c.args.parts.items)) (sym (ap (map plain) c.in_ok-stack.ensures.items))
-    (fold_begin (map plain_part c.args.parts.items) c.requires.0 c.requires.1)
+    (fold_begin (map plain_part c.args.parts.items) c.requires.parts.0 c.requires.parts.1)
 
 pub put_part-requires : goal.put_part-requires
 put_part-requires g c =
@@ -24,7 +24,7 @@ pub unreachable-requires : goal.unreachable-requires
 unreachable-requires g c =
     fold_some _ _ _ c.loop-part.invariant
     (ap (map plain_part) (nil_from_length c.loop-part.parts.items (sym c.loop-part.parts.ok.0 ∙ c.in_default.ensures.cases.0)))
-    (ap (map plain) (nil_from_length c.loop-part.stack.items (sym c.loop-part.stack.ok.0 ∙ c.in-None.ensures.cases.0))) c.requires.0 c.requires.1
+    (ap (map plain) (nil_from_length c.loop-part.stack.items (sym c.loop-part.stack.ok.0 ∙ c.in-None.ensures.cases.0))) c.requires.parts.0 c.requires.parts.1
 
 pub returns : goal.returns
 returns g c = record {

@@ -8,7 +8,7 @@ invariant_of-result g c = (
   (no_rows_yet c.none.ensures.value c.in_ok-with_capacity.ensures.items _ c.in_ok-with_capacity.ensures.len).0,
   record {
     made = omega (arith, c.in_ok-with_capacity.ensures.len);
-    names = words_few _ c.requires;
+    names = words_few _ c.requires.limit;
     fits = c.in_ok-with_capacity.ensures.capacity;
     empty = c.none-2.ensures.value;
   },
