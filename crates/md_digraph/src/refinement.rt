@@ -248,14 +248,14 @@ fn cut<const W: usize>(
         ≡ slice_set classes.old.items at (intersection (class_at classes.old.items at) row.now)
         ++ difference (class_at classes.old.items at) row.now ∷ []) }
 {
-    let (stays, goes) = divided(alloc, &classes[at], row)?;
+    let (stays, goes) = divide(alloc, &classes[at], row)?;
     classes[at] = stays;
     classes.push(goes)?;
     Ok(())
 }
 
 // The part of a class in `row`, and that outside.
-fn divided<const W: usize>(
+fn divide<const W: usize>(
     alloc: Global,
     class: &CompactSet<W>,
     row: &Set<W>,
