@@ -67,7 +67,7 @@ impl RowSpace {
 
 /// Appends the text of the tree of strong modules of a graph, from the outline of the tree: the
 /// pairs of a prime node are read off the rows of the graph at the least names of its children. No
-/// tree is built and no list of pairs. Errors: want of memory.
+/// tree is built and no list of pairs. Errors: want of memory; what the text is then is left open.
 pub fn push_text_by_rows<const W: usize>(
     text: &mut Vec<u8>,
     parts: &[OutlinePart<Kind>],

@@ -121,7 +121,7 @@ pub fn write_tree(alloc: Global, tree: &Option<Tree>) -> Result<Vec<u8>, Memory>
 
 /// Appends the line of the tree of strong modules of a graph, as of `Line::Tree`, without a line
 /// feed: from the outline of the tree and the rows of the graph, with no tree and no list of pairs.
-/// Errors: want of memory.
+/// Errors: want of memory; what the text is then is left open.
 pub fn push_tree_by_rows<const W: usize>(
     text: &mut Vec<u8>,
     parts: &[OutlinePart<Kind>],
@@ -169,7 +169,7 @@ fn push_applied(alloc: Global, text: &mut Vec<u8>, tree: &Option<Tree>) -> Resul
 }
 
 /// Appends the first words of the line that the edit of a group with this number was refused.
-/// Errors: want of memory.
+/// Errors: want of memory; what the text is then is left open.
 pub fn push_edit(text: &mut Vec<u8>, number: u64) -> Result<(), Memory>
     ensures appended { OnOk result (text.new.items
         ≡ text.old.items ++ (codes "no edit " ++ decimal number)) }
@@ -207,7 +207,8 @@ fn push_p4(text: &mut Vec<u8>, p: &P4) -> Result<(), Memory>
     push_names(text, &[p.a, p.b, p.c, p.d])
 }
 
-/// Appends a space and a name for each name. Errors: want of memory.
+/// Appends a space and a name for each name. Errors: want of memory; what the text is then is left
+/// open.
 pub fn push_names(text: &mut Vec<u8>, names: &[u32]) -> Result<(), Memory>
     ensures appended { OnOk result (text.new.items ≡ text.old.items ++ names_text names.now) }
 {
