@@ -6,7 +6,7 @@ use std::fs;
 use std::test::Fail;
 
 // What a load answered, as text.
-fn shown(alloc: Global, answer: Result<Vec<u8>, LoadFault>) -> Result<String, Fail> {
+fn show(alloc: Global, answer: Result<Vec<u8>, LoadFault>) -> Result<String, Fail> {
     match answer {
         Ok(bytes) => {
             let mut text = String::new(alloc);
@@ -37,7 +37,7 @@ fn loads_from_memory(rt: HostRuntime) -> Result<(), Fail> {
     files.add("a", b"four")?;
     files.add("b", b"")?;
     for (name, limit, want) in &FROM_MEMORY {
-        let got = shown(alloc, files.load(alloc, *name, *limit))?;
+        let got = show(alloc, files.load(alloc, *name, *limit))?;
         assert_eq!(rt; got.as_str(), *want, "{name} within {limit}");
     }
     Ok(())
@@ -57,7 +57,7 @@ fn loads_from_the_system(rt: HostRuntime) -> Result<(), Fail> {
     let alloc = rt.alloc();
     let mut files = DirFiles::new(&rt, alloc);
     for (name, limit, want) in &FROM_THE_SYSTEM {
-        let got = shown(alloc, files.load(alloc, *name, *limit))?;
+        let got = show(alloc, files.load(alloc, *name, *limit))?;
         assert_eq!(rt; got.as_str(), *want, "{name} within {limit}");
     }
     Ok(())
@@ -80,7 +80,7 @@ fn loads_a_long_file(rt: HostRuntime) -> Result<(), Fail> {
     let over = files.load(alloc, name, u64::from(MANY) - 1);
     fs::remove_file(&rt, name)?;
     assert_eq!(rt; whole?.as_slice(), bytes.as_slice());
-    assert_eq!(rt; shown(alloc, over)?.as_str(), "TooLong");
+    assert_eq!(rt; show(alloc, over)?.as_str(), "TooLong");
     Ok(())
 }
 
@@ -103,7 +103,7 @@ fn loads_from_slow_files(rt: HostRuntime) -> Result<(), Fail> {
             fails: *fails,
         };
         let mut files = DirFiles::new(&slow, alloc);
-        let got = shown(alloc, files.load(alloc, "slow", *limit))?;
+        let got = show(alloc, files.load(alloc, "slow", *limit))?;
         assert_eq!(rt; got.as_str(), *want, "{bytes} within {limit}");
     }
     Ok(())

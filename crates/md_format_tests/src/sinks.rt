@@ -115,7 +115,7 @@ impl Write for NotingWriter<'_> {
 
 // How many of so many puts of ten bytes to a gathering sink are refused, and what its flush and a
 // put of one byte behind that answer, as text.
-fn gathered(alloc: Global, writer: NotingWriter<'_>, puts: u64) -> Result<String, Fail> {
+fn gather(alloc: Global, writer: NotingWriter<'_>, puts: u64) -> Result<String, Fail> {
     let mut sink = GatheringSink::new(alloc, writer)?;
     let mut refused = 0u64;
     for _ in 0..puts {
@@ -155,7 +155,7 @@ fn gathers_small_puts(rt: HostRuntime) -> Result<(), Fail> {
             lengths: &mut lengths,
             most: *most,
         };
-        let got = gathered(alloc, writer, *puts)?;
+        let got = gather(alloc, writer, *puts)?;
         assert_eq!(rt; got.as_str(), *answers, "{puts} puts, {most} writes");
         assert_eq!(rt; lengths.as_slice(), *want, "{puts} puts, {most} writes");
         for (i, byte) in written.as_slice().iter().enumerate() {

@@ -38,7 +38,7 @@ impl Read for SlowReader<'_> {
 }
 
 // What these files are not asked for.
-fn refused<T>() -> Result<T>
+fn refuse<T>() -> Result<T>
     ensures { ¬ IsOk result }
 {
     Err(Error::from(ErrorKind::Unsupported))
@@ -46,35 +46,35 @@ fn refused<T>() -> Result<T>
 
 impl Write for SlowReader<'_> {
     fn write(&mut self, _piece: &[u8]) -> Result<usize> {
-        refused()
+        refuse()
     }
 
     fn flush(&mut self) -> Result<()> {
-        refused()
+        refuse()
     }
 }
 
 impl Seek for SlowReader<'_> {
     fn seek(&mut self, _to: SeekFrom) -> Result<u64> {
-        refused()
+        refuse()
     }
 }
 
 impl OpenFile for SlowReader<'_> {
     fn metadata(&self) -> Result<Metadata> {
-        refused()
+        refuse()
     }
 
     fn set_len(&self, _size: u64) -> Result<()> {
-        refused()
+        refuse()
     }
 
     fn sync_all(&self) -> Result<()> {
-        refused()
+        refuse()
     }
 
     fn sync_data(&self) -> Result<()> {
-        refused()
+        refuse()
     }
 }
 
@@ -93,38 +93,38 @@ impl<'a> Files for SlowFiles<'a> {
     }
 
     fn open_dir(&self, _path: &str) -> Result<SlowReader<'a>> {
-        refused()
+        refuse()
     }
 
     fn metadata(&self, _path: &str) -> Result<Metadata> {
-        refused()
+        refuse()
     }
 
     fn symlink_metadata(&self, _path: &str) -> Result<Metadata> {
-        refused()
+        refuse()
     }
 
     fn copy(&self, _from: &str, _to: &str) -> Result<u64> {
-        refused()
+        refuse()
     }
 
     fn rename(&self, _from: &str, _to: &str) -> Result<()> {
-        refused()
+        refuse()
     }
 
     fn remove_file(&self, _path: &str) -> Result<()> {
-        refused()
+        refuse()
     }
 
     fn create_dir(&self, _path: &str) -> Result<()> {
-        refused()
+        refuse()
     }
 
     fn remove_dir(&self, _path: &str) -> Result<()> {
-        refused()
+        refuse()
     }
 
     fn remove_dir_all<B: Allocator>(&self, _alloc: B, _path: &str) -> Result<()> {
-        refused()
+        refuse()
     }
 }

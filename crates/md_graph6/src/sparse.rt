@@ -67,7 +67,7 @@ fn group_at(body: &[u8], at: usize) -> u32
 
 // The number of four groups of six bits.
 #[inline]
-fn joined(first: u32, second: u32, third: u32, fourth: u32) -> u32
+fn join_groups(first: u32, second: u32, third: u32, fourth: u32) -> u32
     requires first { first < 64 }
     requires second { second < 64 }
     requires third { third < 64 }
@@ -87,7 +87,7 @@ fn last_word(body: &[u8], at: usize) -> u32
 {
     let (first, second) = (group_at(body, at), group_at(body, at + 1));
     let (third, fourth) = (group_at(body, at + 2), group_at(body, at + 3));
-    joined(first, second, third, fourth)
+    join_groups(first, second, third, fourth)
 }
 
 // The 24 bits of four bytes from `at` on; behind the body they are 0.
@@ -103,7 +103,7 @@ fn word_at(body: &[u8], at: usize) -> u32
     }
     let (first, second) = (group_in(body, at), group_in(body, at + 1));
     let (third, fourth) = (group_in(body, at + 2), group_in(body, at + 3));
-    joined(first, second, third, fourth)
+    join_groups(first, second, third, fourth)
 }
 
 // The lowest `count` bits of a number.

@@ -10,7 +10,7 @@ use std::process::Abort;
 use std::test::Fail;
 
 // The directed graph on the names below `count` with these arcs.
-fn numbered(
+fn digraph_of(
     rt: &impl Abort,
     alloc: Global,
     count: u32,
@@ -168,7 +168,7 @@ static CLOSURES: [Closure<'_>; 17] = [
 ];
 
 // Sees what the least module of `u` and `v` is.
-fn closed(rt: &impl Abort, g: &Digraph, u: u32, v: u32, list: &[u32]) {
+fn sees_least_module(rt: &impl Abort, g: &Digraph, u: u32, v: u32, list: &[u32]) {
     assert!(rt; g.has_vertex(u));
     assert!(rt; g.has_vertex(v));
     let mut into = Set::none();
@@ -179,8 +179,8 @@ fn closed(rt: &impl Abort, g: &Digraph, u: u32, v: u32, list: &[u32]) {
 #[test]
 fn least_modules(rt: HostRuntime) -> Result<(), Fail> {
     for (count, arcs, u, v, list) in &CLOSURES {
-        let g = numbered(&rt, rt.alloc(), *count, *arcs)?;
-        closed(&rt, &g, *u, *v, *list);
+        let g = digraph_of(&rt, rt.alloc(), *count, *arcs)?;
+        sees_least_module(&rt, &g, *u, *v, *list);
     }
     Ok(())
 }
@@ -189,7 +189,7 @@ fn least_modules(rt: HostRuntime) -> Result<(), Fail> {
 type Part<'a> = (&'a [u32], u32, u32, [&'a [u32]; 3]);
 
 // Sees what both components of `x`, and the least module of `x` and `y`, are in a part.
-fn parted(rt: &impl Abort, g: &Digraph, part: &[u32], x: u32, y: u32, lists: [&[u32]; 3]) {
+fn sees_components(rt: &impl Abort, g: &Digraph, part: &[u32], x: u32, y: u32, lists: [&[u32]; 3]) {
     let mut within = Set::none();
     for v in part {
         assert!(rt; *v < DIRECTED_NAMES);
@@ -209,7 +209,7 @@ fn parted(rt: &impl Abort, g: &Digraph, part: &[u32], x: u32, y: u32, lists: [&[
 
 fn expect_parts(rt: &impl Abort, g: &Digraph, parts: &[Part<'_>]) {
     for (part, x, y, lists) in parts {
-        parted(rt, g, part, *x, *y, *lists);
+        sees_components(rt, g, part, *x, *y, *lists);
     }
 }
 
@@ -240,11 +240,11 @@ static MODULE_PARTS: [Part<'_>; 3] = [
 
 #[test]
 fn parts(rt: HostRuntime) -> Result<(), Fail> {
-    let g = numbered(&rt, rt.alloc(), 5, &PARALLEL)?;
+    let g = digraph_of(&rt, rt.alloc(), 5, &PARALLEL)?;
     expect_parts(&rt, &g, &PARALLEL_PARTS);
-    let g = numbered(&rt, rt.alloc(), 4, &SERIES)?;
+    let g = digraph_of(&rt, rt.alloc(), 4, &SERIES)?;
     expect_parts(&rt, &g, &SERIES_PARTS);
-    let g = numbered(&rt, rt.alloc(), 6, &MODULE)?;
+    let g = digraph_of(&rt, rt.alloc(), 6, &MODULE)?;
     expect_parts(&rt, &g, &MODULE_PARTS);
     Ok(())
 }

@@ -5,7 +5,7 @@ use std::process::Abort;
 use std::test::Fail;
 
 // The graph with these vertices and edges.
-fn made(
+fn graph_of(
     rt: &impl Abort,
     alloc: Global,
     names: &[u32],
@@ -57,7 +57,7 @@ fn expect(rt: &impl Abort, g: &Graph, names: &[u32], edges: &[(u32, u32)]) {
 
 #[test]
 fn derived_graphs(rt: HostRuntime) -> Result<(), Fail> {
-    let path = made(&rt, rt.alloc(), &[0, 1, 2], &[(0, 1), (1, 2)])?;
+    let path = graph_of(&rt, rt.alloc(), &[0, 1, 2], &[(0, 1), (1, 2)])?;
     expect(&rt, &path, &[0, 1, 2], &[(0, 1), (1, 2)]);
     let mut copy = path.copy(rt.alloc())?;
     expect(&rt, &copy, &[0, 1, 2], &[(0, 1), (1, 2)]);
@@ -116,7 +116,7 @@ fn expect_next(rt: &impl Abort, g: &Graph) {
 #[test]
 fn changes(rt: HostRuntime) -> Result<(), Fail> {
     let last = NAMES - 1;
-    let mut g = made(&rt, rt.alloc(), &[5, 64, 200, last], &[(64, last)])?;
+    let mut g = graph_of(&rt, rt.alloc(), &[5, 64, 200, last], &[(64, last)])?;
     let mut others = Names::none();
     others.insert(5);
     others.insert(64);

@@ -6,7 +6,7 @@ use std::process::Abort;
 use std::test::Fail;
 
 // The graph with the vertices 0 to 4 and these edges.
-fn made(rt: &impl Abort, alloc: Global, edges: &[(u32, u32)]) -> Result<Graph, Memory> {
+fn graph_of(rt: &impl Abort, alloc: Global, edges: &[(u32, u32)]) -> Result<Graph, Memory> {
     Ok(Graph::from_edges(alloc, 5, edges)?.expect(rt, "edges"))
 }
 
@@ -19,16 +19,16 @@ fn expect(rt: &impl Abort, g: &Graph, x: u32, want: Option<(u32, u32, u32, u32)>
 
 #[test]
 fn known_graphs(rt: HostRuntime) -> Result<(), Fail> {
-    let spider = made(&rt, rt.alloc(), &[(0, 1), (1, 2), (2, 3), (1, 4)])?;
+    let spider = graph_of(&rt, rt.alloc(), &[(0, 1), (1, 2), (2, 3), (1, 4)])?;
     expect(&rt, &spider, 4, Some((3, 2, 1, 4)));
     expect(&rt, &spider, 0, Some((0, 1, 2, 3)));
-    let three = made(&rt, rt.alloc(), &[(1, 2), (2, 3)])?;
+    let three = graph_of(&rt, rt.alloc(), &[(1, 2), (2, 3)])?;
     expect(&rt, &three, 1, None);
     expect(&rt, &three, 0, None);
-    let five = made(&rt, rt.alloc(), &[(0, 1), (1, 2), (2, 3), (3, 4)])?;
+    let five = graph_of(&rt, rt.alloc(), &[(0, 1), (1, 2), (2, 3), (3, 4)])?;
     expect(&rt, &five, 0, Some((0, 1, 2, 3)));
     expect(&rt, &five, 4, Some((1, 2, 3, 4)));
-    let cycle = made(&rt, rt.alloc(), &[(0, 1), (1, 2), (2, 3), (3, 4), (0, 4)])?;
+    let cycle = graph_of(&rt, rt.alloc(), &[(0, 1), (1, 2), (2, 3), (3, 4), (0, 4)])?;
     assert!(rt; cycle.has_vertex(2));
     assert!(rt; find_p4_with(&cycle, 2).is_some());
     Ok(())
@@ -53,7 +53,7 @@ fn expect_four(rt: &impl Abort, g: &Graph, names: (u32, u32, u32, u32), want: bo
 
 #[test]
 fn bull(rt: HostRuntime) -> Result<(), Fail> {
-    let bull = made(&rt, rt.alloc(), &[(0, 1), (1, 2), (2, 3), (1, 4), (2, 4)])?;
+    let bull = graph_of(&rt, rt.alloc(), &[(0, 1), (1, 2), (2, 3), (1, 4), (2, 4)])?;
     expect(&rt, &bull, 4, None);
     expect(&rt, &bull, 0, Some((0, 1, 2, 3)));
     expect(&rt, &bull, 2, Some((0, 1, 2, 3)));

@@ -26,7 +26,7 @@ fn expect(rt: &impl Abort, names: &Names, list: &[u32]) {
 }
 
 // Sees what the least module of `u` and `v` is.
-fn closed(rt: &impl Abort, g: &Graph, u: u32, v: u32, list: &[u32]) {
+fn sees_least_module(rt: &impl Abort, g: &Graph, u: u32, v: u32, list: &[u32]) {
     assert!(rt; g.has_vertex(u));
     assert!(rt; g.has_vertex(v));
     let mut into = Names::none();
@@ -36,7 +36,7 @@ fn closed(rt: &impl Abort, g: &Graph, u: u32, v: u32, list: &[u32]) {
 
 // Sees what the component of `x`, that of the complement, and the least module of `x` and `y` in a
 // part are.
-fn parted(rt: &impl Abort, g: &Graph, part: &[u32], x: u32, y: u32, lists: [&[u32]; 3]) {
+fn sees_components(rt: &impl Abort, g: &Graph, part: &[u32], x: u32, y: u32, lists: [&[u32]; 3]) {
     let within = set(rt, part).and(g.vertices());
     assert!(rt; within.has(x));
     assert!(rt; within.has(y));
@@ -51,7 +51,7 @@ fn parted(rt: &impl Abort, g: &Graph, part: &[u32], x: u32, y: u32, lists: [&[u3
 
 // Sees which names no smaller module holds with `v`, in a part that is the least module of `v` and
 // `j`.
-fn turned(rt: &impl Abort, g: &Graph, part: &[u32], v: u32, j: u32, list: &[u32]) {
+fn sees_apart_names(rt: &impl Abort, g: &Graph, part: &[u32], v: u32, j: u32, list: &[u32]) {
     let within = set(rt, part).and(g.vertices());
     assert!(rt; v != j);
     assert!(rt; within.has(v));
@@ -66,7 +66,7 @@ fn turned(rt: &impl Abort, g: &Graph, part: &[u32], v: u32, j: u32, list: &[u32]
 }
 
 // Sees what the maximal ones among the modules of the graph inside a part with `x` are.
-fn refined(
+fn sees_maximal_modules(
     rt: &impl Abort,
     alloc: Global,
     g: &Graph,
@@ -98,7 +98,12 @@ fn expect_classes(rt: &impl Abort, classes: Vec<CompactSet<WORDS>>, lists: [&[u3
 }
 
 // Sees what a block is once names were taken in.
-fn inserted(rt: &impl Abort, alloc: Global, names: [u32; 4], list: &[u32]) -> Result<(), Memory> {
+fn sees_insertions(
+    rt: &impl Abort,
+    alloc: Global,
+    names: [u32; 4],
+    list: &[u32],
+) -> Result<(), Memory> {
     assert!(rt; names[0] < NAMES);
     let mut block = CompactSet::<WORDS>::one(names[0]);
     for name in names {
@@ -134,7 +139,7 @@ static SETS: [(&[u32], bool); 6] = [
 fn modules(rt: HostRuntime) -> Result<(), Fail> {
     let g = Graph::from_edges(rt.alloc(), 5, &EDGES)?.expect(&rt, "edges");
     for (u, v, list) in &CLOSURES {
-        closed(&rt, &g, *u, *v, *list);
+        sees_least_module(&rt, &g, *u, *v, *list);
     }
     for (list, whether) in &SETS {
         assert_eq!(rt; is_module(&g, &set(&rt, *list)), *whether);
@@ -160,19 +165,19 @@ static PARTS: [Part<'_>; 3] = [
 fn parts(rt: HostRuntime) -> Result<(), Fail> {
     let g = Graph::from_edges(rt.alloc(), 5, &EDGES)?.expect(&rt, "edges");
     for (part, x, y, lists) in &PARTS {
-        parted(&rt, &g, *part, *x, *y, *lists);
+        sees_components(&rt, &g, *part, *x, *y, *lists);
     }
-    turned(&rt, &g, &[0, 1, 2, 3, 4], 0, 1, &[1, 2, 3]);
-    turned(&rt, &g, &[0, 3], 3, 0, &[0]);
+    sees_apart_names(&rt, &g, &[0, 1, 2, 3, 4], 0, 1, &[1, 2, 3]);
+    sees_apart_names(&rt, &g, &[0, 3], 3, 0, &[0]);
     Ok(())
 }
 
 #[test]
 fn classes(rt: HostRuntime) -> Result<(), Fail> {
     let g = Graph::from_edges(rt.alloc(), 5, &EDGES)?.expect(&rt, "edges");
-    refined(&rt, rt.alloc(), &g, &[0, 3, 4], 3, [&[0, 4], &[3]])?;
-    inserted(&rt, rt.alloc(), [5, 5, 5, 5], &[5])?;
-    inserted(&rt, rt.alloc(), [5, 70, 5, 4], &[4, 5, 70])?;
+    sees_maximal_modules(&rt, rt.alloc(), &g, &[0, 3, 4], 3, [&[0, 4], &[3]])?;
+    sees_insertions(&rt, rt.alloc(), [5, 5, 5, 5], &[5])?;
+    sees_insertions(&rt, rt.alloc(), [5, 70, 5, 4], &[4, 5, 70])?;
     Ok(())
 }
 

@@ -63,7 +63,7 @@ fn two_sets(rt: HostRuntime) {
 }
 
 #[test]
-fn compared(rt: HostRuntime) {
+fn comparisons(rt: HostRuntime) {
     let mut names = borders();
     let mut more = Names::none();
     more.insert_range(63, 66);

@@ -147,13 +147,13 @@ fn expect_orders(rt: &impl Abort, graph: &Graph, n: u32, first: &Order, second: 
 }
 
 // Whether two different names are adjacent, or, where `edges` is false, aren't.
-fn joined(graph: &Graph, edges: bool, u: u32, v: u32) -> bool {
+fn are_joined(graph: &Graph, edges: bool, u: u32, v: u32) -> bool {
     u != v && graph.has_edge(u, v) == edges
 }
 
 fn forces(graph: &Graph, edges: bool, a: Arc, b: Arc) -> bool {
-    let at_tail = a.tail == b.tail && a.head != b.head && !joined(graph, edges, a.head, b.head);
-    let at_head = a.head == b.head && a.tail != b.tail && !joined(graph, edges, a.tail, b.tail);
+    let at_tail = a.tail == b.tail && a.head != b.head && !are_joined(graph, edges, a.head, b.head);
+    let at_head = a.head == b.head && a.tail != b.tail && !are_joined(graph, edges, a.tail, b.tail);
     at_tail || at_head
 }
 
@@ -165,7 +165,7 @@ fn expect_chain(rt: &impl Abort, graph: &Graph, edges: bool, chain: &Chain) {
     assert!(rt; first.tail < first.head);
     for i in 0..chain.len() {
         let by = chain.get(i);
-        assert!(rt; joined(graph, edges, by.tail, by.head));
+        assert!(rt; are_joined(graph, edges, by.tail, by.head));
         assert!(rt; i == 0 || forces(graph, edges, last, by));
         for j in 0..i {
             assert!(rt; chain.get(j) != by);

@@ -103,19 +103,19 @@ impl Room {
         let mut medium = GraphOf::new(alloc)?;
         if is_read(file, MEDIUM, limit, &mut medium)? {
             room.width = Width::Sixteen;
-            room.medium = Some(boxed(alloc, medium)?);
+            room.medium = Some(in_box(alloc, medium)?);
             return Ok(room);
         }
         let mut broad = GraphOf::new(alloc)?;
         if is_read(file, BROAD, limit, &mut broad)? {
             room.width = Width::SixtyFour;
-            room.broad = Some(boxed(alloc, broad)?);
+            room.broad = Some(in_box(alloc, broad)?);
             return Ok(room);
         }
         let mut large = Graph::new(alloc)?;
         md_dimacs::read(file, limit, &mut large)?;
         room.width = Width::Most;
-        room.large = Some(boxed(alloc, large)?);
+        room.large = Some(in_box(alloc, large)?);
         Ok(room)
     }
 
@@ -187,7 +187,7 @@ impl Room {
 }
 
 // The graph in a box. Errors: want of memory.
-fn boxed<const W: usize>(alloc: Global, graph: GraphOf<W>) -> Result<Box<GraphOf<W>>, Memory>
+fn in_box<const W: usize>(alloc: Global, graph: GraphOf<W>) -> Result<Box<GraphOf<W>>, Memory>
     ensures { IfOk result (λ boxed. boxed.value ≡ graph.entry) }
 {
     Ok(Box::new(alloc, graph)?)
@@ -227,7 +227,7 @@ fn fill_rows<const W: usize>(
 {
     let mut graph = match rows.take() {
         Some(graph) => graph,
-        None => boxed(alloc, GraphOf::new(alloc)?)?,
+        None => in_box(alloc, GraphOf::new(alloc)?)?,
     };
     let found = lines.take_first(&mut graph);
     *rows = Some(graph);

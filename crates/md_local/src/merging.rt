@@ -32,13 +32,13 @@ pub(crate) fn join(
     ensures { IfOk result (λ tree. IsJoined kind edges.list.items
         (map plain children.items) (plain tree)) }
 {
-    let list = ordered(alloc, kind, children)?;
+    let list = children_in_order(alloc, kind, children)?;
     Ok(Tree::Node(kind, Children { list }, edges))
 }
 
 // The trees, each that can't be a child of a node of the kind with its own children in its place,
 // and then in order; the trees as they are where each can be a child.
-fn ordered(alloc: Global, kind: Kind, children: Vec<Tree>) -> Result<Vec<Tree>, Memory>
+fn children_in_order(alloc: Global, kind: Kind, children: Vec<Tree>) -> Result<Vec<Tree>, Memory>
     ensures { IfOk result (λ list. AreOrdered kind (map plain children.items)
         (map plain list.items)) }
 {

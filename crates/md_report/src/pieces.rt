@@ -60,7 +60,7 @@ pub(crate) fn split_piece(text: &[u8]) -> Option<(&[u8], &[u8])>
 
 // The number that a piece spells, if it spells one: its digits, not too many, without leading
 // zeros.
-fn spelled(piece: &[u8]) -> Option<u64>
+fn spelled_number(piece: &[u8]) -> Option<u64>
     ensures { MatchOption result ((n : ℕ) → n < 10 ^ DIGITS → piece.now ≢ decimal n)
         (λ n. piece.now ≡ decimal n) }
 {
@@ -76,7 +76,7 @@ pub(crate) fn name(piece: &[u8]) -> Option<u32>
     ensures { MatchOption result ((v : ℕ) → IsVertexName v → piece.now ≢ decimal v)
         (λ v. IsVertexName v × (piece.now ≡ decimal v)) }
 {
-    let value = spelled(piece)?;
+    let value = spelled_number(piece)?;
     if value >= u64::from(NAMES) {
         return None;
     }
@@ -116,7 +116,7 @@ fn edit_number(piece: &[u8]) -> Option<u64>
     ensures { MatchOption result ((j : ℕ) → IsEditNumber j → piece.now ≢ decimal j)
         (λ j. IsEditNumber j × (piece.now ≡ decimal j)) }
 {
-    let value = spelled(piece)?;
+    let value = spelled_number(piece)?;
     if value == 0 || value > EDITS {
         return None;
     }

@@ -43,7 +43,7 @@ fn status_of<F: Files, O: Sink, E: Sink>(
 }
 
 // The number of a status, and what stands on `out` and on `err`.
-fn shown(alloc: Global, status: Status, out: &MemSink, err: &MemSink) -> Result<String, Fail> {
+fn show(alloc: Global, status: Status, out: &MemSink, err: &MemSink) -> Result<String, Fail> {
     let number = status.number();
     let mut shown = format!(in alloc; "{number}|")?;
     for byte in out.bytes() {
@@ -74,7 +74,7 @@ fn run_over(
     let mut out = MemSink::new(alloc, vec![in alloc; put]?, part);
     let mut err = MemSink::new(alloc, Vec::new(alloc), 0);
     let status = status_of(alloc, &words, &mut files, &mut out, &mut err);
-    shown(alloc, status, &out, &err)
+    show(alloc, status, &out, &err)
 }
 
 // Sees that a run over the files `g` and `s` ends as it is to be.
@@ -586,7 +586,7 @@ fn expect_refusal(
     let mut out = MemSink::new(alloc, Vec::new(alloc), 0);
     let mut err = MemSink::new(alloc, Vec::new(alloc), 0);
     let status = status_of(alloc, &words, &mut files, &mut out, &mut err);
-    let shown = shown(alloc, status, &out, &err)?;
+    let shown = show(alloc, status, &out, &err)?;
     assert_eq!(rt; shown.as_str(), want, "{line}");
     assert!(rt; status.exit_code() == ExitCode::from(code), "{line}");
     Ok(())

@@ -49,7 +49,7 @@ impl Draft {
     }
 
     // How many of the lines count.
-    pub(crate) fn counted(&self) -> u64
+    pub(crate) fn count(&self) -> u64
         ensures { result ≡ (draft_seen self.now).counted }
     {
         self.counted

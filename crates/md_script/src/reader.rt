@@ -69,7 +69,7 @@ fn read_line(
     if first[0] == b'#' {
         return Ok(());
     }
-    let counted = draft.counted();
+    let counted = draft.count();
     let token = read_token(alloc, counted, draft.is_open(), first, rest, names)?;
     draft.put(alloc, token)?;
     Ok(())

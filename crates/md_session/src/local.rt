@@ -68,7 +68,7 @@ impl<const W: usize> LocalSessionOf<W> {
     }
 
     /// The tree of strong modules of the graph that the session keeps.
-    pub fn kept(&self) -> &Option<Tree>
+    pub fn kept_tree(&self) -> &Option<Tree>
         ensures { IsTree (adjacent self.now) self.now.vertices (plain_option result.now) }
     {
         &self.tree
@@ -104,8 +104,8 @@ impl<const W: usize> LocalSessionOf<W> {
         Ok(line(told))
     }
 
-    /// Answers an item as `apply_item` does, without a copy of the tree: `kept` lends it. Errors:
-    /// want of memory; session and history then stay.
+    /// Answers an item as `apply_item` does, without a copy of the tree: `kept_tree` lends it.
+    /// Errors: want of memory; session and history then stay.
     #[inline(never)]
     pub fn answer_item<L: Ledger>(
         &mut self,

@@ -294,7 +294,7 @@ fn new_tree<const W: usize, L: Ledger>(
         work.old work.new) }
 {
     let new = match ends {
-        Some((u, v)) => rebuilt(alloc, graph, tree, u, v, work)?,
+        Some((u, v)) => rebuild_tree(alloc, graph, tree, u, v, work)?,
         None => decompose_part(alloc, graph, graph.vertices(), work)?,
     };
     if !copies {
@@ -310,7 +310,7 @@ fn new_tree<const W: usize, L: Ledger>(
 // The tree of a graph in which the edge between u and v has come or gone, from the tree of the
 // graph before. Conditions: u and v are two vertices, and the tree is that of the graph before.
 // Errors: want of memory.
-fn rebuilt<const W: usize, L: Ledger>(
+fn rebuild_tree<const W: usize, L: Ledger>(
     alloc: Global,
     graph: &GraphOf<W>,
     tree: &Option<Tree>,

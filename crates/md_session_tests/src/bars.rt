@@ -175,7 +175,7 @@ fn with_last_name(alloc: Global, shape: &[u8], to: usize, name: u32) -> Result<V
 
 // The shapes that are this one where a name above all of its names is left out; each name has one
 // digit.
-fn grown(alloc: Global, shape: &[u8], name: u32) -> Result<Vec<Vec<u8>>, Fail> {
+fn grow(alloc: Global, shape: &[u8], name: u32) -> Result<Vec<Vec<u8>>, Fail> {
     let mut all = Vec::new(alloc);
     let mut begins = Vec::new(alloc);
     for (i, byte) in shape.iter().enumerate() {
@@ -261,7 +261,7 @@ fn small_cographs(rt: HostRuntime) -> Result<(), Fail> {
     for (name, count) in [(1, 1), (2, 4), (3, 26), (4, 236)] {
         let mut all = Vec::new(alloc);
         for shape in &shapes {
-            for more in grown(alloc, shape, name)? {
+            for more in grow(alloc, shape, name)? {
                 for root_is_series in [false, true] {
                     check_by_search(&rt, alloc, &text_of(alloc, &more, root_is_series)?)?;
                 }

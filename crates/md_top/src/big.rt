@@ -115,7 +115,7 @@ fn insert(
 {
     let neighbours = Neighbours::new(alloc, names)?;
     let edit = Edit::AddVertex { x: v, neighbours };
-    Ok(done(session, &edit))
+    Ok(count_applied(session, &edit))
 }
 
 // The neighbours of a new name: the names before it, or none.
@@ -146,7 +146,7 @@ fn cut(session: &mut CographSessionOf<64>, v: u32) -> u32
     ensures few { result ≤ 1 }
 {
     if 3 <= v && v % 2 == 1 {
-        return 1 - done(session, &Edit::DelEdge { u: 1, v });
+        return 1 - count_applied(session, &Edit::DelEdge { u: 1, v });
     }
     0
 }
@@ -169,13 +169,13 @@ fn delete(session: &mut CographSessionOf<64>, v: u32)
         × RunsTo session.old (deletions_at v) done undone session.new }
 {
     if v % 2 == 0 {
-        done(session, &Edit::DelVertex { x: v });
+        count_applied(session, &Edit::DelVertex { x: v });
     }
 }
 
 // How many edits are applied of one that the session answers. Condition: the names in the edit are
 // below `BIGGEST`.
-fn done(session: &mut CographSessionOf<64>, edit: &Edit) -> u32
+fn count_applied(session: &mut CographSessionOf<64>, edit: &Edit) -> u32
     requires { HasNamesBelow BIGGEST edit.now }
     ensures run { RunsTo session.old (edit.now ∷ []) result (1 - result) session.new }
     ensures few { result ≤ 1 }

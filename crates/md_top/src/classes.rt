@@ -15,7 +15,7 @@ ghost use Rattle.md_script.specs.Histories.{HistoryFits};
 ghost use Rattle.md_script.specs.Items.{HasItemNamesBelow};
 ghost use Rattle.md_top.specs.Sinks.{sink_run, PutsLines};
 
-use crate::put::{applied_text_by_rows, fed, put_report_line, put_text, tree_text_by_rows};
+use crate::put::{applied_text_by_rows, put_report_line, put_text, tree_text_by_rows, with_feed};
 use crate::stop::PutStop;
 use crate::undos::{forget_unreached, undos_behind};
 use md_bar::{Bar, Class, ClassLine, write_class};
@@ -58,7 +58,7 @@ pub fn put_class<const W: usize, O: Sink, L: Ledger>(
 fn bar_text(alloc: Global, bar: Bar) -> Result<Vec<u8>, Memory>
     ensures { IfOk result (λ text. text.items ≡ fed_line (PlainLine.barred bar)) }
 {
-    fed(write_class(alloc, &ClassLine::First(bar))?)
+    with_feed(write_class(alloc, &ClassLine::First(bar))?)
 }
 
 // Puts the lines of a session behind its head. Conditions: the graph is of the class, and the names
@@ -143,6 +143,6 @@ fn item_text<const W: usize, L: Ledger>(
         ClassAnswer::Applied(parts) => {
             applied_text_by_rows(alloc, &parts, session.graph(), space)
         }
-        ClassAnswer::Refused(line) => fed(write_class(alloc, &line)?),
+        ClassAnswer::Refused(line) => with_feed(write_class(alloc, &line)?),
     }
 }

@@ -68,7 +68,7 @@ pub fn fed_text(alloc: Global, line: &Line) -> Result<Vec<u8>, Memory>
 }
 
 /// The text of a line with its line feed.
-pub fn fed(text: Vec<u8>) -> Result<Vec<u8>, Memory>
+pub fn with_feed(text: Vec<u8>) -> Result<Vec<u8>, Memory>
     ensures { (line : PlainLine) → text.items ≡ line_text line →
         IfOk result (λ whole. whole.items ≡ fed_line line) }
 {
@@ -93,7 +93,7 @@ pub fn tree_text_by_rows<const W: usize>(
 {
     let mut text = Vec::new(alloc);
     push_tree_by_rows(&mut text, parts, graph, space)?;
-    fed(text)
+    with_feed(text)
 }
 
 /// The text of the line that an item was applied and left the tree of a graph, from the outline of
@@ -113,5 +113,5 @@ pub fn applied_text_by_rows<const W: usize>(
     let mut text = Vec::new(alloc);
     text.extend_from_slice(b"ok ")?;
     push_text_by_rows(&mut text, parts, graph, space)?;
-    fed(text)
+    with_feed(text)
 }

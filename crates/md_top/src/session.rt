@@ -23,7 +23,7 @@ ghost use Rattle.md_top.specs.Sinks.{sink_run, PutsLines};
 
 use crate::classes::put_class;
 use crate::cographs::put_cographs;
-use crate::put::{fed, put_report_line, put_text};
+use crate::put::{put_report_line, put_text, with_feed};
 use crate::stop::{PutStop, Stop, Verdict};
 use crate::undos::{forget_unreached, undos_behind};
 use md_graph::{GraphOf, Memory, Steps};
@@ -102,7 +102,7 @@ fn put_session<const W: usize, O: Sink, L: Ledger>(
         (sink_run O.Sink out.old out.new) }
     ensures faults_never_fall { O.faults out.old ≤ O.faults out.new }
 {
-    let head = fed(write_session_head(alloc, mode)?)?;
+    let head = with_feed(write_session_head(alloc, mode)?)?;
     put_text(&head, out)?;
     match mode {
         SessionMode::Edit => put_states(alloc, graph, script, steps, out),
@@ -164,7 +164,7 @@ fn first_text<const W: usize>(alloc: Global, session: &LocalSessionOf<W>) -> Res
         × IsTree (adjacent session.now) session.now.vertices t
         × (text.items ≡ fed_line (lines.tree t))) }
 {
-    fed(write_tree(alloc, session.kept())?)
+    with_feed(write_tree(alloc, session.kept_tree())?)
 }
 
 // The text of the line of an item, which the session answers, with its line feed. Conditions: the
@@ -198,13 +198,13 @@ fn answer_text<const W: usize>(
         × IsTree (adjacent session.now) session.now.vertices t
         × (text.items ≡ fed_line (line_of_answer answer t))) }
 {
-    let kept = session.kept();
+    let kept = session.kept_tree();
     match answer {
-        LocalAnswer::Applied => fed(write_applied(alloc, kept)?),
-        LocalAnswer::Refused(reason) => fed(write_line(alloc, &Line::Refused(reason))?),
+        LocalAnswer::Applied => with_feed(write_applied(alloc, kept)?),
+        LocalAnswer::Refused(reason) => with_feed(write_line(alloc, &Line::Refused(reason))?),
         LocalAnswer::GroupRefused(number, reason) => {
-            fed(write_line(alloc, &Line::GroupRefused(number, reason))?)
+            with_feed(write_line(alloc, &Line::GroupRefused(number, reason))?)
         }
-        LocalAnswer::NothingToUndo => fed(write_line(alloc, &Line::NothingToUndo)?),
+        LocalAnswer::NothingToUndo => with_feed(write_line(alloc, &Line::NothingToUndo)?),
     }
 }

@@ -10,7 +10,7 @@ use std::alloc::{AllocError, Global};
 use std::process::Abort;
 use std::test::Fail;
 
-fn made(
+fn graph_with(
     rt: &impl Abort,
     alloc: Global,
     names: &[u32],
@@ -61,7 +61,7 @@ fn check_made(
     edges: &[(u32, u32)],
     expected: &[u8],
 ) -> Result<(), Memory> {
-    let graph = made(rt, alloc, names, edges)?;
+    let graph = graph_with(rt, alloc, names, edges)?;
     check(rt, alloc, &graph, expected)
 }
 
@@ -159,7 +159,7 @@ static PARTS: [(&[u32], &[u8]); 7] = [
 fn parts_of_a_prime_graph(rt: HostRuntime) -> Result<(), Fail> {
     let a = rt.alloc();
     let edges = [(0, 1), (1, 2), (2, 3), (1, 4)];
-    let graph = made(&rt, a, &[0, 1, 2, 3, 4], &edges)?;
+    let graph = graph_with(&rt, a, &[0, 1, 2, 3, 4], &edges)?;
     for (names, expected) in &PARTS {
         check_within(&rt, a, &graph, *names, *expected)?;
     }
@@ -170,7 +170,7 @@ fn parts_of_a_prime_graph(rt: HostRuntime) -> Result<(), Fail> {
 fn parts_of_a_cograph(rt: HostRuntime) -> Result<(), Fail> {
     let a = rt.alloc();
     let square = [(0, 1), (1, 2), (2, 3), (0, 3)];
-    let graph = made(&rt, a, &[0, 1, 2, 3], &square)?;
+    let graph = graph_with(&rt, a, &[0, 1, 2, 3], &square)?;
     check_within(&rt, a, &graph, &[0, 2], b"P(0,2)")?;
     check_within(&rt, a, &graph, &[1, 2], b"S(1,2)")?;
     check_within(&rt, a, &graph, &[0, 1, 3], b"S(0,P(1,3))")?;

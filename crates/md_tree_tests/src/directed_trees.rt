@@ -9,7 +9,7 @@ use std::process::Abort;
 use std::test::Fail;
 
 // The directed graph on the names below `count` with these arcs.
-fn numbered<const W: usize>(
+fn digraph_of<const W: usize>(
     rt: &impl Abort,
     alloc: Global,
     count: u32,
@@ -43,11 +43,11 @@ fn check(
     arcs: &[(u32, u32)],
     expected: &[u8],
 ) -> Result<(), Memory> {
-    let small: DigraphOf<1> = numbered(rt, alloc, count, arcs)?;
+    let small: DigraphOf<1> = digraph_of(rt, alloc, count, arcs)?;
     let tree = decompose_directed(alloc, &small)?;
     let written = text_directed(alloc, &tree)?;
     assert_eq!(rt; written.as_slice(), expected);
-    let large: DigraphOf<3> = numbered(rt, alloc, count, arcs)?;
+    let large: DigraphOf<3> = digraph_of(rt, alloc, count, arcs)?;
     let tree = decompose_directed(alloc, &large)?;
     let written = text_directed(alloc, &tree)?;
     assert_eq!(rt; written.as_slice(), expected);
@@ -181,7 +181,7 @@ fn check_four(rt: &impl Abort, alloc: Global, first: u32, expected: &[u8]) -> Re
 
 // The directed graph on three names whose arcs, in order, are the bits of a number.
 fn of_bits(rt: &impl Abort, alloc: Global, bits: u32) -> Result<DigraphOf<1>, Memory> {
-    let mut graph = numbered(rt, alloc, 3, &[])?;
+    let mut graph = digraph_of(rt, alloc, 3, &[])?;
     let mut left = bits;
     for (u, v) in [(0, 1), (0, 2), (1, 0), (1, 2), (2, 0), (2, 1)] {
         if left % 2 == 1 {

@@ -29,7 +29,7 @@ pub(crate) fn read(rt: &impl Abort, alloc: Global, bytes: &[u8]) -> Option<Tree>
 
 // Deletes the edge between two different vertices, or adds it where there is none; whether that was
 // done.
-pub(crate) fn turned<L: Ledger>(
+pub(crate) fn toggle_edge<L: Ledger>(
     cotree: &mut Cotree,
     graph: &Graph,
     u: u32,
@@ -76,7 +76,7 @@ fn edges_turn(rt: HostRuntime) -> Result<(), Fail> {
         ),
     ];
     for (before, u, v, done, after) in &table {
-        let (is_done, text) = edited(&rt, alloc, before.as_bytes(), *u, *v)?;
+        let (is_done, text) = toggle_in_text(&rt, alloc, before.as_bytes(), *u, *v)?;
         assert_eq!(rt; is_done, *done);
         assert!(rt; text.as_slice() == after.as_bytes());
     }
@@ -84,7 +84,7 @@ fn edges_turn(rt: HostRuntime) -> Result<(), Fail> {
 }
 
 // What comes of turning an edge of the cotree of this tree: whether it was done, and the tree then.
-fn edited(
+fn toggle_in_text(
     rt: &impl Abort,
     alloc: Global,
     before: &[u8],
@@ -95,7 +95,7 @@ fn edited(
     let mut graph = Graph::new(alloc)?;
     graph_of(&tree, &mut graph);
     let mut cotree = from_tree(alloc, &tree)?;
-    let done = turned::<Brand>(&mut cotree, &graph, u, v, Blank::new(1));
+    let done = toggle_edge::<Brand>(&mut cotree, &graph, u, v, Blank::new(1));
     let back = cotree.to_tree(alloc)?;
     let after = text(alloc, &back)?;
     Ok((done, after))
@@ -179,7 +179,7 @@ fn turn_each(
     walk: &mut Walk,
 ) -> Result<(), Fail> {
     for (u, v, bit) in pairs {
-        let (done, after) = edited(rt, alloc, before, *u, *v)?;
+        let (done, after) = toggle_in_text(rt, alloc, before, *u, *v)?;
         compare(rt, alloc, before, (*u, *v), done, &after)?;
         let next = (mask ^ *bit) % 1024;
         if done && !walk.seen[next] {

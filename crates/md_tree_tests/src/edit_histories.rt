@@ -2,9 +2,9 @@
 ghost use Rattle.std.specs.Prelude.{IfOk};
 ghost use Rattle.md_cotree.specs.Cotrees.{IsSoundCotree, Denotes};
 
-use crate::edge_edits::turned;
-use crate::vertex_deletions::deleted;
-use crate::vertex_insertions::inserted;
+use crate::edge_edits::toggle_edge;
+use crate::vertex_deletions::delete_vertex;
+use crate::vertex_insertions::insert_vertex;
 use md_cotree::Cotree;
 use md_graph::{Graph, Memory};
 use md_tree::{graph_of, text};
@@ -27,7 +27,7 @@ enum Step {
 const LISTS: [u32; 6] = [0, 1, 2, 0, 1, 3];
 
 // The graph that a cotree denotes.
-fn denoted(alloc: Global, cotree: &Cotree) -> Result<Graph, Memory>
+fn graph_denoted(alloc: Global, cotree: &Cotree) -> Result<Graph, Memory>
     requires { IsSoundCotree cotree.now }
     ensures { IfOk result (λ graph. Denotes cotree.now graph) }
 {
@@ -42,18 +42,18 @@ fn edit(alloc: Global, cotree: &mut Cotree, step: &Step) -> Result<bool, Memory>
     requires { IsSoundCotree cotree.old }
     ensures { IfOk result (λ _. IsSoundCotree cotree.new) }
 {
-    let graph = denoted(alloc, cotree)?;
+    let graph = graph_denoted(alloc, cotree)?;
     match step {
         Step::Insert(x, from, to) => {
             if *from > *to || *to > 6 {
                 return Ok(false);
             }
             let names = &LISTS[*from..*to];
-            Ok(inserted::<Brand>(cotree, &graph, *x, names, Blank::new(1)))
+            Ok(insert_vertex::<Brand>(cotree, &graph, *x, names, Blank::new(1)))
         }
-        Step::Turn(u, v) => Ok(turned::<Brand>(cotree, &graph, *u, *v, Blank::new(1))),
+        Step::Turn(u, v) => Ok(toggle_edge::<Brand>(cotree, &graph, *u, *v, Blank::new(1))),
         Step::Delete(x) => {
-            deleted::<Brand>(cotree, &graph, *x, Blank::new(1));
+            delete_vertex::<Brand>(cotree, &graph, *x, Blank::new(1));
             Ok(graph.has_vertex(*x))
         }
     }

@@ -120,7 +120,7 @@ fn toggle(graph: &mut GraphOf<1>, u: u32, v: u32)
 
 // Sees that the tree is rebuilt to that of the graph where the edge between u and v comes or goes,
 // and gives its text.
-fn rebuilt<L: Ledger>(
+fn rebuild_text<L: Ledger>(
     rt: &impl Abort,
     alloc: Global,
     graph: &mut GraphOf<1>,
@@ -155,7 +155,7 @@ fn edit<L: Ledger>(
     assert!(rt; u != v);
     assert!(rt; graph.has_vertex(u));
     assert!(rt; graph.has_vertex(v));
-    rebuilt(rt, alloc, graph, u, v, work)
+    rebuild_text(rt, alloc, graph, u, v, work)
 }
 
 // Sees that the graph on the names below a number with these edges has the tree with this text

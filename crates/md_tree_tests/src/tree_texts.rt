@@ -23,7 +23,7 @@ fn leaves(alloc: Global, names: &[u32]) -> Result<Children, AllocError> {
 }
 
 // P(0,4),1,2,3
-fn nested(alloc: Global) -> Result<Children, AllocError> {
+fn nested_children(alloc: Global) -> Result<Children, AllocError> {
     let inner = Tree::Node(Kind::Parallel, leaves(alloc, &[0, 4])?, pairs(alloc, &[])?);
     let mut list = Vec::new(alloc);
     list.push(inner)?;
@@ -101,7 +101,7 @@ fn texts(rt: HostRuntime) -> Result<(), Fail> {
     if path.len() == 3 {
         assert_eq!(&rt; *path.get(1), Pair { low: 1, high: 2 });
     }
-    let children = nested(alloc)?;
+    let children = nested_children(alloc)?;
     check_text(
         &rt,
         alloc,

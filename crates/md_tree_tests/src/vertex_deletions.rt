@@ -14,7 +14,7 @@ use std::sync::ledger::{Blank, Ledger};
 use std::test::Fail;
 
 // Deletes a vertex, where it is there.
-pub(crate) fn deleted<L: Ledger>(cotree: &mut Cotree, graph: &Graph, x: u32, blank: Blank)
+pub(crate) fn delete_vertex<L: Ledger>(cotree: &mut Cotree, graph: &Graph, x: u32, blank: Blank)
     requires name { blank.name ≡ L.name }
     requires parts { blank.parts ≡ L.parts }
     requires some { 0 < blank.parts }
@@ -28,12 +28,17 @@ pub(crate) fn deleted<L: Ledger>(cotree: &mut Cotree, graph: &Graph, x: u32, bla
 }
 
 // The tree with this text when a vertex is deleted.
-pub(crate) fn left(rt: &impl Abort, alloc: Global, before: &[u8], x: u32) -> Result<Vec<u8>, Fail> {
+pub(crate) fn delete_in_text(
+    rt: &impl Abort,
+    alloc: Global,
+    before: &[u8],
+    x: u32,
+) -> Result<Vec<u8>, Fail> {
     let tree = read(rt, alloc, before);
     let mut graph = Graph::new(alloc)?;
     graph_of(&tree, &mut graph);
     let mut cotree = from_tree(alloc, &tree)?;
-    deleted::<Brand>(&mut cotree, &graph, x, Blank::new(1));
+    delete_vertex::<Brand>(&mut cotree, &graph, x, Blank::new(1));
     let back = cotree.to_tree(alloc)?;
     let after = text(alloc, &back)?;
     Ok(after)
@@ -60,7 +65,7 @@ fn vertices_go(rt: HostRuntime) -> Result<(), Fail> {
         ("P(S(0,P(1,S(2,3,4))),5)", 1, "P(S(0,2,3,4),5)"),
     ];
     for (before, x, after) in &table {
-        let text = left(&rt, alloc, before.as_bytes(), *x)?;
+        let text = delete_in_text(&rt, alloc, before.as_bytes(), *x)?;
         assert!(rt; text.as_slice() == after.as_bytes());
     }
     Ok(())

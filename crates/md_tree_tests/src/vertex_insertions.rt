@@ -6,7 +6,7 @@ ghost use Rattle.md_graph.specs.Sets.{Has};
 ghost use Rattle.md_cotree.specs.Cotrees.{IsSoundCotree, Denotes};
 
 use crate::edge_edits::{plain, read};
-use crate::vertex_deletions::left;
+use crate::vertex_deletions::delete_in_text;
 use md_cotree::{Cotree, from_tree};
 use md_cotree_edit::{add_edge, add_vertex};
 use md_graph::{Graph, NAMES, Steps};
@@ -43,7 +43,7 @@ fn ascend(names: &[u32]) -> bool
 }
 
 // Adds a vertex to those that there are; whether that was done.
-pub(crate) fn inserted<L: Ledger>(
+pub(crate) fn insert_vertex<L: Ledger>(
     cotree: &mut Cotree,
     graph: &Graph,
     x: u32,
@@ -64,7 +64,7 @@ pub(crate) fn inserted<L: Ledger>(
 }
 
 // Whether a vertex was added to the tree with this text, and the text of the tree then.
-fn grown(
+fn insert_in_text(
     rt: &impl Abort,
     alloc: Global,
     before: &[u8],
@@ -75,7 +75,7 @@ fn grown(
     let mut graph = Graph::new(alloc)?;
     graph_of(&tree, &mut graph);
     let mut cotree = from_tree(alloc, &tree)?;
-    let done = inserted::<Brand>(&mut cotree, &graph, x, names, Blank::new(1));
+    let done = insert_vertex::<Brand>(&mut cotree, &graph, x, names, Blank::new(1));
     let back = cotree.to_tree(alloc)?;
     let after = text(alloc, &back)?;
     Ok((done, after))
@@ -102,7 +102,13 @@ fn vertices_come(rt: HostRuntime) -> Result<(), Fail> {
         ("S(P(0,1),2)", 3, 0, 1, false, "S(P(0,1),2)"),
     ];
     for (before, x, from, to, done, after) in &table {
-        let (is_done, text) = grown(&rt, alloc, before.as_bytes(), *x, &names[*from..*to])?;
+        let (is_done, text) = insert_in_text(
+            &rt,
+            alloc,
+            before.as_bytes(),
+            *x,
+            &names[*from..*to],
+        )?;
         assert_eq!(rt; is_done, *done);
         assert!(rt; text.as_slice() == after.as_bytes());
     }
@@ -140,7 +146,7 @@ fn see_grown(
     x: u32,
     names: &[u32],
 ) -> Result<Option<Vec<u8>>, Fail> {
-    let (done, after) = grown(rt, alloc, before, x, names)?;
+    let (done, after) = insert_in_text(rt, alloc, before, x, names)?;
     let mut graph = plain(rt, alloc, before)?;
     join(rt, &mut graph, x, names);
     if find_p4(&graph).is_some() {
@@ -156,7 +162,7 @@ fn see_grown(
 
 // Sees that deleting a vertex came to what the plain change of the graph tells.
 fn see_left(rt: &impl Abort, alloc: Global, before: &[u8], x: u32) -> Result<(), Fail> {
-    let after = left(rt, alloc, before, x)?;
+    let after = delete_in_text(rt, alloc, before, x)?;
     let mut graph = plain(rt, alloc, before)?;
     assert!(rt; graph.has_vertex(x));
     graph.remove_vertex(x);

@@ -1,5 +1,5 @@
 //! Checks of reports.
-use super::{shown, status_of, words_of};
+use super::{show, status_of, words_of};
 use md_io::{MemFiles, MemSink};
 use std::alloc::Global;
 use std::process::Abort;
@@ -21,7 +21,7 @@ pub(super) fn check_over(
     let mut out = MemSink::new(alloc, Vec::new(alloc), 0);
     let mut err = MemSink::new(alloc, Vec::new(alloc), 0);
     let status = status_of(alloc, &words, &mut files, &mut out, &mut err);
-    shown(alloc, status, &out, &err)
+    show(alloc, status, &out, &err)
 }
 
 // Sees that a check of the report `r` over the files `g` and `s` ends as it is to be.

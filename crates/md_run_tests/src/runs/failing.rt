@@ -1,7 +1,7 @@
 //! Runs whose loads or puts fail, or whose output finds no memory.
 mod full_sink;
 
-use super::{expect_fault, expect_run, run_over, shown, status_of, words_of};
+use super::{expect_fault, expect_run, run_over, show, status_of, words_of};
 use full_sink::FullSink;
 use md_io::{MemFiles, MemSink};
 use std::alloc::Global;
@@ -44,7 +44,7 @@ fn front(alloc: Global, lines: &[&str], place: usize, part: usize) -> Result<Str
 
 // What is to be shown of a run whose output is these lines, each in one put, where the put at a
 // place takes a part of its line and fails.
-fn failed(alloc: Global, lines: &[&str], place: usize, part: usize) -> Result<String, Fail> {
+fn failing_run(alloc: Global, lines: &[&str], place: usize, part: usize) -> Result<String, Fail> {
     let text = front(alloc, lines, place, part)?;
     if place < lines.len() {
         return Ok(format!(in alloc; "5|{text}|mdt: write fault\n")?);
@@ -63,7 +63,7 @@ fn expect_cut(
     part: u64,
 ) -> Result<(), Fail> {
     let (file, script) = files;
-    let want = failed(alloc, lines, place as usize, part as usize)?;
+    let want = failing_run(alloc, lines, place as usize, part as usize)?;
     let shown = run_over(alloc, line, file, script, 0, place.saturating_add(1), part)?;
     assert_eq!(rt; shown.as_str(), want.as_str(), "{line}");
     Ok(())
@@ -384,7 +384,7 @@ fn expect_refused_line(
     let mut out = MemSink::new(alloc, Vec::new(alloc), 0);
     let mut err = MemSink::new(alloc, vec![in alloc; 1]?, part);
     let status = status_of(alloc, &words, &mut files, &mut out, &mut err);
-    let shown = shown(alloc, status, &out, &err)?;
+    let shown = show(alloc, status, &out, &err)?;
     assert_eq!(rt; shown.as_str(), want, "{line}");
     Ok(())
 }

@@ -21,7 +21,7 @@ fn run_flushed(
     out.fail_flushes(vec![in alloc; flush]?);
     let mut err = MemSink::new(alloc, Vec::new(alloc), 0);
     let status = status_of(alloc, &words, &mut files, &mut out, &mut err);
-    shown(alloc, status, &out, &err)
+    show(alloc, status, &out, &err)
 }
 
 // Sees that such a run ends as it is to be.

@@ -62,7 +62,7 @@ fn join_to_first(rt: &impl Abort, graph: &mut Graph, order: Order, count: u32, p
 }
 
 // Paths nested so many times, always at an end or in the middle, or in both in turn.
-fn nested(
+fn nest_paths(
     rt: &impl Abort,
     alloc: Global,
     order: Order,
@@ -90,7 +90,7 @@ fn compare_nested(
     turned: bool,
 ) -> Result<(), Memory> {
     for times in 1..14 {
-        let graph = nested(rt, alloc, order, times, first, turned)?;
+        let graph = nest_paths(rt, alloc, order, times, first, turned)?;
         compare(rt, alloc, &graph)?;
     }
     Ok(())

@@ -8,7 +8,7 @@ use Rattle.md_top.proofs.big.cut.Goals.{else-v-ge3-via-then-v-ge3+else-v-eq1, el
 
 pub returns-then-v-eq1-clause-run : goal.returns-then-v-eq1-clause-run
 returns-then-v-eq1-clause-run c =
-    (c.done.result, subst (λ (edits : List Edit). RunsTo c.args.session.now edits c.done.result (1 - c.done.result) c.done.new.session) (sym (odd_cut c.args.v c.if-v-ge3.true c.if-v-eq1.true)) c.done.ensures.run)
+    (c.count_applied.result, subst (λ (edits : List Edit). RunsTo c.args.session.now edits c.count_applied.result (1 - c.count_applied.result) c.count_applied.new.session) (sym (odd_cut c.args.v c.if-v-ge3.true c.if-v-eq1.true)) c.count_applied.ensures.run)
 
 pub returns-clause-run : goal.returns-clause-run
 returns-clause-run c = elim c.else-v-ge3.branch [

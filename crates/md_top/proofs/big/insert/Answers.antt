@@ -7,12 +7,12 @@ use Rattle.md_top.specs.Big.{RunsTo}
 use Rattle.md_top.proofs.Runs.{all_before}
 use Rattle.md_top.proofs.big.insert.Goals as goal
 
-pub done-requires : goal.done-requires
-done-requires c =
+pub count_applied-requires : goal.count_applied-requires
+count_applied-requires c =
     (c.requires.few, all_before c.args.v BIGGEST c.args.names.now c.in_ok-neighbours.neighbours c.requires.few (omega arith) c.requires.names c.in_ok-neighbours.ensures)
 
 pub returns-clause-run : goal.returns-clause-run
 returns-clause-run c = (
-  1 - c.done.result,
-  subst (λ (names : List ℕ). RunsTo c.args.session.now (AddVertex c.args.v names ∷ []) c.done.result (1 - c.done.result) c.done.new.session) (c.in_ok-neighbours.ensures ∙ ap ascending c.requires.names) c.done.ensures.run,
+  1 - c.count_applied.result,
+  subst (λ (names : List ℕ). RunsTo c.args.session.now (AddVertex c.args.v names ∷ []) c.count_applied.result (1 - c.count_applied.result) c.count_applied.new.session) (c.in_ok-neighbours.ensures ∙ ap ascending c.requires.names) c.count_applied.ensures.run,
 )
